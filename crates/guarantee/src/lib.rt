@@ -1,0 +1,1 @@
+// What the method promises; nothing is computed here.

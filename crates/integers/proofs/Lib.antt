@@ -1,0 +1,10 @@
+pub mod Tests
+pub mod Lists
+pub mod Loops
+pub mod Whole
+pub mod Ring
+pub mod Quote
+pub mod Order
+pub mod Bounds
+pub mod Elements
+pub mod Euclid

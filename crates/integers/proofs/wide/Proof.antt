@@ -1,0 +1,13 @@
+-- `integers::wide` meets its contract: what fits 32 bits fits 64. Assumes nothing.
+use mir.Facts.{toZ-ofZ, sfits-widen}
+use Rattle.integers.proofs.wide.Statement.{statement}
+use Rattle.integers.proofs.wide.Tie as tie
+
+cast-result : tie.Need-cast-result
+cast-result c = rw (toZ-ofZ (c .fits .x)) (sfits-widen tt (c .fits .x))
+
+returns : tie.Need-returns
+returns c = rw (toZ-ofZ (c .fits .x)) (toZ-ofZ (sfits-widen tt (c .fits .x)))
+
+pub wide-spec : {M : Type 1} → statement M
+wide-spec = tie.close (tie.spec cast-result returns)

@@ -1,0 +1,4 @@
+pub mod Gcd
+pub mod Lists
+pub mod Signs
+pub mod Limits

@@ -1,0 +1,4 @@
+pub mod Setting
+pub mod Shape
+pub mod Accepted
+pub mod Refusals

@@ -1,0 +1,1 @@
+// Removal of variables from sets of rows.

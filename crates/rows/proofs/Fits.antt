@@ -1,0 +1,102 @@
+-- What the code needs of entries in 64 bits: sums of products and quotients stay within bounds, and a computed test gives the limit. Assumes nothing.
+use mathlib.Core.Path.{_≡_, refl, sym, ap, ap₂, _∙_}
+use mathlib.Core.Bool.{Bool, true, false}
+use mathlib.Core.List.{List, [], _∷_, map}
+use Prim.Native.Nat.{ℕ, zero, suc, _+_, _*_, _^_, _≤_, _<_, zero-le}
+use native.Mathlib.Nat.{zero-div, div-le-self, le-trans}
+use native.Mathlib.Omega.{arith}
+use borrow.Author.Tests.{leb-true}
+use lib.Dec.{leb}
+use lib.ListN.{length, drop}
+use lib.IntN.{ℤ, pos, negℤ, natAbs, _+ℤ_, _*ℤ_}
+use lib.Signed.{quotZ}
+use Rattle.integers.specs.Gcd.{gcd}
+use Rattle.integers.specs.Limits.{entry-limit}
+use Rattle.integers.specs.Lists.{every}
+use Rattle.integers.proofs.Bounds.{natAbs-neg, natAbs-quot, combined-le}
+use Rattle.integers.proofs.Euclid.{gcd-le}
+use Rattle.integers.proofs.Loops.{front, front-all}
+use Rattle.integers.proofs.Tests.{and-left, and-right}
+use Rattle.integers.proofs.Whole.{zed, of-pos}
+use Rattle.rows.specs.Rows.{at, under, Within, Small, gcd-from, or-one, divisor, divided, kept, gone, too-large, all-small, all-zero, limited, constant, divided-down, false-row, plus, times, paired}
+use Rattle.rows.specs.declared.Row.{Row}
+use Rattle.rows.proofs.Divisor.{divisor-pos}
+use Rattle.rows.proofs.Sums.{at-plus, at-times, length-plus, length-times}
+
+-- ---- the divisor
+gcd-from-le : (B : ℕ) (l : List ℤ) (g : ℕ) → g ≤ B → Within B l → gcd-from g l ≤ B
+gcd-from-le B [] g h w = h
+gcd-from-le B (z ∷ l) g h w = gcd-from-le B l (gcd g (natAbs z)) (gcd-le B g (natAbs z) h (w 0)) (λ i. w (suc i))
+
+or-one-le : (B g : ℕ) → 1 ≤ B → g ≤ B → or-one g ≤ B
+or-one-le B zero h k = h
+or-one-le B (suc n) h k = k
+
+pub divisor-above : (l : List ℤ) → 0 < divisor l
+divisor-above l = omega (zed, of-pos (divisor-pos l))
+
+pub divisor-le : (B : ℕ) (l : List ℤ) → 1 ≤ B → Within B l → divisor l ≤ B
+unfolding divisor
+divisor-le B l h w = or-one-le B (gcd-from 0 l) h (gcd-from-le B l 0 zero-le w)
+
+-- ---- the test of all entries
+pub small-of : (l : List ℤ) → all-small l ≡ true → Small l
+unfolding all-small every
+small-of [] e i = zero-le
+small-of (z ∷ l) e zero = leb-true _ _ (and-left (leb (natAbs z) entry-limit) (every (λ z. leb (natAbs z) entry-limit) l) e)
+small-of (z ∷ l) e (suc i) = small-of l (and-right (leb (natAbs z) entry-limit) (every (λ z. leb (natAbs z) entry-limit) l) e) i
+
+-- ---- a pair, as a loop makes it entry by entry
+module _ (x y : List ℤ) (a b : ℤ) where
+  pub front-combined : (o : List ℤ) → length o ≡ length x → length x ≡ length y → front (λ k. b *ℤ at x k +ℤ a *ℤ at y k) (length x) o ≡ plus (times b x) (times a y)
+  front-combined o h e =
+      front-all (pos 0) _ (length x) o (plus (times b x) (times a y)) h
+      (length-plus (times b x) (times a y) (length-times b x ∙ e ∙ sym (length-times a y)) ∙ length-times b x)
+      (λ i k. sym (at-plus (times b x) (times a y) i ∙ ap₂ _+ℤ_ (at-times b x i) (at-times a y i)))
+
+pub within-paired : (v : ℕ) (r s : Row) → Small (r .entries) → Small (s .entries) → Within (2 ^ 62) (paired v r s .entries)
+within-paired v r s f g i =
+    let a = at (r .entries) v in
+    let b = negℤ (at (s .entries) v) in
+    rw (at-plus (times b (r .entries)) (times a (s .entries)) i, at-times b (r .entries) i, at-times a (s .entries) i)
+    (omega (arith, combined-le entry-limit (at (r .entries) i) (at (s .entries) i) a b (f i) (g i) (f v) (rw natAbs-neg (g v))))
+
+-- ---- the divisor as the code has it: the greatest common divisor, or 1
+pub divisor-one : (l : List ℤ) (g : ℕ) → g ≡ gcd-from 0 l → g ≡ 0 → 1 ≡ divisor l
+unfolding divisor
+divisor-one l g e h = rw (← e, h)
+
+pub divisor-same : (l : List ℤ) (g : ℕ) → g ≡ gcd-from 0 l → (g ≡ 0 → ⊥) → g ≡ divisor l
+unfolding divisor
+divisor-same l zero e f = absurd (f refl)
+divisor-same l (suc g) e f = rw (← e)
+
+-- ---- dividing down, as the code goes about it
+module _ (l : List ℤ) (s : Bool) where
+  abbrev row : Row
+  row = record { entries = l; strict = s }
+
+  pub constant-gone : under s (at l 0) ≡ true → gone ≡ constant row
+  unfolding constant
+  constant-gone e = rw e
+
+  pub constant-kept : under s (at l 0) ≡ false → kept false-row ≡ constant row
+  unfolding constant
+  constant-kept e = rw e
+
+  pub down-constant : all-zero (drop 1 l) ≡ true → constant row ≡ divided-down row
+  unfolding divided-down
+  down-constant e = rw e
+
+  module _ (q : List ℤ) (d : ℕ) (some : all-zero (drop 1 l) ≡ false) (is-d : d ≡ divisor l) (is-q : q ≡ map (λ z. quotZ z (pos d)) l) where
+    quotients : q ≡ divided row .entries
+    unfolding divided
+    quotients = rw (is-q, is-d)
+
+    pub down-kept : all-small q ≡ true → kept (record { entries = q; strict = s }) ≡ divided-down row
+    unfolding divided-down limited divided
+    down-kept e = rw (some, ← quotients, e)
+
+    pub down-large : all-small q ≡ false → too-large ≡ divided-down row
+    unfolding divided-down limited divided
+    down-large e = rw (some, ← quotients, e)

@@ -1,0 +1,11 @@
+pub mod Sums
+pub mod Sign
+pub mod Meaning
+pub mod Negating
+pub mod Pairing
+pub mod Ordering
+pub mod Divisor
+pub mod Fits
+pub mod Dividing
+pub mod Again
+pub mod Stores

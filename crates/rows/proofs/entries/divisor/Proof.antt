@@ -1,0 +1,14 @@
+-- `rows::entries::divisor` meets its contract. Assumes nothing.
+use borrow.Author.Needs.{needs}
+use Rattle.rows.proofs.Fits.{divisor-one, divisor-same}
+use Rattle.rows.proofs.entries.divisor.Statement.{statement}
+use Rattle.rows.proofs.entries.divisor.Tie as tie
+
+returns : tie.Need-returns
+returns c = divisor-one (c .before .before .args .l) (c .before .gcd-of-all .result) (c .before .gcd-of-all .ensures) (c .if1 .taken)
+
+returns-2 : tie.Need-returns-2
+returns-2 c = divisor-same (c .before .before .args .l) (c .before .gcd-of-all .result) (c .before .gcd-of-all .ensures) (c .if1 .left)
+
+pub divisor-spec : {M : Type 1} → statement M
+divisor-spec = tie.close (tie.spec (λ c κs. search needs) returns returns-2)

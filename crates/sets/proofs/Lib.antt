@@ -1,0 +1,5 @@
+pub mod Results
+pub mod Joining
+pub mod Ordered
+pub mod Canon
+pub mod Tests

@@ -1,0 +1,74 @@
+-- Sets of rows (rules, "Rows and sets"): a list of rows in order with no row twice.
+use mathlib.Core.Path.{_≡_}
+use mathlib.Core.Bool.{Bool, true, false, cond, _&&_, _||_}
+use mathlib.Core.List.{List, [], _∷_}
+use lib.Dec.{leb}
+use lib.ListN.{length}
+use Rattle.rows.specs.declared.Row.{Row}
+use Rattle.rows.specs.declared.Fate.{Fate}
+use Rattle.rows.specs.declared.Fate.the-variants.{Kept, Gone, TooLarge}
+use Rattle.rows.specs.declared.Settled.{Settled}
+use Rattle.rows.specs.declared.Order.{Order}
+use Rattle.rows.specs.declared.Order.the-variants.{Before, Same, After}
+use Rattle.rows.specs.Rows.{set-rows, false-row, divided-down, row-order}
+use Rattle.sets.specs.declared.Refusal.{Refusal}
+use Rattle.sets.specs.declared.Refusal.the-variants.{EntryTooLarge, TooManyRows}
+use Rattle.sets.specs.Outcomes.{Result, found, refused, and-then}
+
+-- what a set is: each row stands before the next
+pub data InOrder : List Row → Type 0 where
+  none : InOrder []
+  one : {r : Row} → InOrder (r ∷ [])
+  more : {r s : Row} {l : List Row} → row-order r s ≡ Before → InOrder (s ∷ l) → InOrder (r ∷ s ∷ l)
+
+-- ---- a row put where it belongs, unless it stands there: r against the first row s, `behind` is r put into the rest
+abbrev pub place : Order → Row → Row → List Row → List Row → List Row
+place Before r s rest behind = r ∷ s ∷ rest
+place Same r s rest behind = s ∷ rest
+place After r s rest behind = s ∷ behind
+
+unfoldable pub insert : Row → List Row → List Row
+insert r [] = r ∷ []
+insert r (s ∷ rest) = let behind = insert r rest in place (row-order r s) r s rest behind
+
+-- ---- rows joined to a set: each divided down and put in its place, 9 judged over all of them; then 10
+abbrev pub put : Fate → Row → List Row → Result (List Row)
+put Kept r s = found (insert r s)
+put Gone r s = found s
+put TooLarge r s = refused EntryTooLarge
+
+abbrev pub put-settled : Settled → List Row → Result (List Row)
+put-settled x s = put (x .fate) (x .row) s
+
+unfoldable pub joined-all : List Row → List Row → Result (List Row)
+joined-all [] s = found s
+joined-all (r ∷ rs) s = and-then (put-settled (divided-down r) s) (λ t. joined-all rs t)
+
+unfoldable pub within-limit : List Row → Result (List Row)
+within-limit s = cond (leb (length s) set-rows) (found s) (refused TooManyRows)
+
+unfoldable pub joined : List Row → List Row → Result (List Row)
+joined rs s = and-then (joined-all rs s) within-limit
+
+-- ---- tests on sets
+abbrev pub is-same : Order → Bool
+is-same Before = false
+is-same Same = true
+is-same After = false
+
+unfoldable pub same-row : Row → Row → Bool
+same-row r s = is-same (row-order r s)
+
+unfoldable pub stands-in : Row → List Row → Bool
+stands-in r [] = false
+stands-in r (s ∷ rest) = same-row r s || stands-in r rest
+
+unfoldable pub same-rows : List Row → List Row → Bool
+same-rows [] [] = true
+same-rows [] (s ∷ ss) = false
+same-rows (r ∷ rs) [] = false
+same-rows (r ∷ rs) (s ∷ ss) = same-row r s && same-rows rs ss
+
+-- a false row, 1 ≤ 0, stands in it
+abbrev pub any-false : List Row → Bool
+any-false s = stands-in false-row s
