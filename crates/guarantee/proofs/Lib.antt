@@ -1,1 +1,16 @@
+pub mod Common
+pub mod Points
+pub mod Scope
+pub mod Steps
+pub mod Moves
+pub mod Graph
+pub mod Paths
+pub mod Explore
+pub mod Ending
+pub mod Bridge
+pub mod Denominators
+pub mod Promise
+pub mod Likewise
+pub mod Between
 pub mod Marked
+pub mod Contrast

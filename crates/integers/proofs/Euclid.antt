@@ -1,30 +1,27 @@
 -- `gcd` is the greatest common divisor, and the only number that is; division by a divisor is exact. Assumes nothing.
 use mathlib.Core.Path.{_≡_, refl, sym, ap, _∙_, subst}
-use Prim.Native.Nat.{ℕ, zero, suc, _+_, _*_, _%_, _≤_, _<_, _∣_}
-use native.Mathlib.Nat.{dvd-mod-iff, dvd-refl, dvd-zero, dvd-antisymm, mod-lt, mod-le, mod-eq-zero-of-dvd, div-add-mod, le-refl, le-trans, lt-irrefl, zero-lt-suc}
+use Prim.Native.Nat.{ℕ, zero, suc, _+_, _*_, _/_, _%_, _≤_, _<_, _∣_}
+use native.Mathlib.Nat.{dvd-mod-iff, dvd-refl, dvd-zero, dvd-antisymm, mod-lt, mod-le, mod-eq-zero-of-dvd, mod-eq-of-lt, add-mul-mod-self-left, div-add-mod, mul-zero, mul-lt-mul-of-pos-left, not-suc-le-zero, le-refl, le-trans, lt-irrefl, zero-lt-suc}
 use native.Mathlib.Omega.{arith}
 use lib.IntN.{ℤ, pos, negsuc, negℤ, natAbs, _+ℤ_, _*ℤ_, +ℤ-idr, negℤ-+ℤ}
 use lib.Signed.{quotZ, remZ}
 use Rattle.integers.specs.Gcd.{euclid, gcd, Greatest}
 use Rattle.integers.proofs.Whole.{*ℤ-neg, IsPos, is-pos}
 
-step-up : (a b g : ℕ) → Greatest (suc b) (a % suc b) g → Greatest a (suc b) g
+step-up : (a b g : ℕ) → Greatest b (a % b) g → Greatest a b g
 step-up a b g h = record {
   left = dvd-mod-iff _ (h .left) .0 (h .right);
   right = h .left;
   most = λ d p q. h .most d q (dvd-mod-iff _ q .1 p);
 }
 
+less : (k a b : ℕ) → suc b < suc k → a % suc b < suc b → a % suc b < k
+less k a b h l = omega arith
+
 euclid-is : (k a b : ℕ) → b < k → Greatest a b (euclid k a b)
-euclid-is zero a b h = absurd (not b h)
-  where
-    not : (b : ℕ) → b < zero → ⊥
-    not b h = omega arith
+euclid-is zero a b h = absurd (not-suc-le-zero h)
 euclid-is (suc k) a zero h = record { left = dvd-refl a; right = dvd-zero a; most = λ d p q. p }
-euclid-is (suc k) a (suc b) h = step-up a b _ (euclid-is k (suc b) (a % suc b) (less k a b h (mod-lt a (zero-lt-suc b))))
-  where
-    less : (k a b : ℕ) → suc b < suc k → a % suc b < suc b → a % suc b < k
-    less k a b h l = omega arith
+euclid-is (suc k) a (suc b) h = step-up a (suc b) _ (euclid-is k (suc b) (a % suc b) (less k a b h (mod-lt a (zero-lt-suc b))))
 
 pub gcd-is : (a b : ℕ) → Greatest a b (gcd a b)
 unfolding gcd
@@ -40,7 +37,7 @@ gcd-zero a = refl
 
 pub gcd-step : (a b : ℕ) → 0 < b → gcd b (a % b) ≡ gcd a b
 gcd-step a zero h = absurd (lt-irrefl 0 h)
-gcd-step a (suc b) h = only a (suc b) _ _ (step-up a b _ (gcd-is (suc b) (a % suc b))) (gcd-is a (suc b))
+gcd-step a (suc b) h = only a (suc b) _ _ (step-up a (suc b) _ (gcd-is (suc b) (a % suc b))) (gcd-is a (suc b))
 
 euclid-le : (B k a b : ℕ) → a ≤ B → b ≤ B → euclid k a b ≤ B
 euclid-le B zero a b h l = h
@@ -51,6 +48,22 @@ euclid-le B (suc k) a (suc b) h l = euclid-le B k (suc b) (a % suc b) l (le-tran
 pub gcd-le : (B a b : ℕ) → a ≤ B → b ≤ B → gcd a b ≤ B
 unfolding gcd
 gcd-le B a b h l = euclid-le B (suc b) a b h l
+
+-- ---- of multiples
+mod-scale : (c a b : ℕ) → 0 < c → 0 < b → c * a % (c * b) ≡ c * (a % b)
+mod-scale c a b h k =
+    let e : c * a ≡ c * (a % b) + c * b * (a / b) = omega (arith, ap (λ (t : ℕ). c * t) (div-add-mod a b)) in
+    rw e (add-mul-mod-self-left (c * (a % b)) (c * b) (a / b) ∙ mod-eq-of-lt (mul-lt-mul-of-pos-left (mod-lt a k) h))
+
+scale-is : (c : ℕ) → 0 < c → (k a b : ℕ) → b < k → Greatest (c * a) (c * b) (c * euclid k a b)
+scale-is c p zero a b h = absurd (not-suc-le-zero h)
+scale-is c p (suc k) a zero h = record { left = dvd-refl (c * a); right = rw (mul-zero c) (dvd-zero (c * a)); most = λ d q r. q }
+scale-is c p (suc k) a (suc b) h =
+    step-up (c * a) (c * suc b) _ (rw (mod-scale c a (suc b) p (zero-lt-suc b)) (scale-is c p k (suc b) (a % suc b) (less k a b h (mod-lt a (zero-lt-suc b)))))
+
+pub gcd-scale : (c a b : ℕ) → 0 < c → gcd (c * a) (c * b) ≡ c * gcd a b
+unfolding gcd
+gcd-scale c a b h = only (c * a) (c * b) _ _ (gcd-is (c * a) (c * b)) (scale-is c h (suc b) a b (le-refl (suc b)))
 
 -- ---- exact division
 rem-of-divides : (z : ℤ) (g : ℕ) → g ∣ natAbs z → remZ z (pos g) ≡ pos 0

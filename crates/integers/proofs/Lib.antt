@@ -1,5 +1,6 @@
 pub mod Tests
 pub mod Lists
+pub mod Members
 pub mod Loops
 pub mod Whole
 pub mod Ring

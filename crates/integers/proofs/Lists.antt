@@ -1,11 +1,11 @@
 -- Laws of `All`: what `filter`, `map`, `++` and all pairs of two lists do to a property of every element. Assumes nothing.
-use mathlib.Core.Bool.{Bool, true, false, not, cond}
-use mathlib.Core.Path.{_≡_, refl, sym, subst}
+use mathlib.Core.Bool.{Bool, true, false, cond, _&&_}
+use mathlib.Core.Path.{_≡_, refl, sym, ap, _∙_, subst}
 use mathlib.Core.Logic.{_↔_}
 use mathlib.Core.List.{List, [], _∷_, _++_, map}
 use lib.Dec.{T}
 use Rattle.integers.specs.Lists.{All, nil, cons, In, here, there, every, filter, pairs}
-use Rattle.integers.proofs.Tests.{and-left, and-right}
+use Rattle.integers.proofs.Tests.{and-left, and-right, and-mixed}
 
 module _ {A : Type 0} where
   pub all-head : {P : A → Type 0} {x : A} {l : List A} → All P (x ∷ l) → P x
@@ -74,3 +74,9 @@ module _ {A : Type 0} where
   pub all-in : {P : A → Type 0} {x : A} {l : List A} → All P l → In x l → P x
   all-in {P} (cons h t) (here e) = subst P (sym e) h
   all-in (cons h t) (there i) = all-in t i
+
+  -- two tests in one
+  pub every-both : (f g : A → Bool) (l : List A) → every (λ x. f x && g x) l ≡ (every f l && every g l)
+  unfolding every
+  every-both f g [] = refl
+  every-both f g (x ∷ l) = ap (λ (b : Bool). (f x && g x) && b) (every-both f g l) ∙ and-mixed (f x) (g x) (every f l) (every g l)

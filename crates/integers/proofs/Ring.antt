@@ -6,10 +6,10 @@ use mathlib.Core.List.{List, [], _∷_}
 use Prim.Native.Nat.{ℕ, zero, suc}
 use lib.Dec.{T, leb, eqb}
 use borrow.Author.Tests.{eqb-true}
-use lib.IntN.{ℤ, pos, negsuc, _+ℤ_, _-ℤ_, _*ℤ_, negℤ, +ℤ-idl, +ℤ-idr, *ℤ-zero, zero-*ℤ, -ℤ-+ℤ-cancel, +ℤ-assoc, +ℤ-comm, *ℤ-comm}
+use lib.IntN.{ℤ, pos, negsuc, _+ℤ_, _-ℤ_, _*ℤ_, negℤ, +ℤ-idl, +ℤ-idr, *ℤ-zero, zero-*ℤ, +ℤ-assoc, +ℤ-comm, *ℤ-comm}
 use lib.ListN.{getD}
 use Rattle.integers.specs.Signs.{isZero}
-use Rattle.integers.proofs.Tests.{and-left, and-right, not-both, true-of, zero-of}
+use Rattle.integers.proofs.Tests.{and-left, and-right, not-both, true-of, zero-of, from-difference}
 use Rattle.integers.proofs.Whole.{ring, +ℤ-*ℤ, *ℤ-+ℤ, *ℤ-assoc, *ℤ-left-comm, +ℤ-left-comm, one-*ℤ, neg-*ℤ}
 
 pub data Ex : Type 0 where
@@ -163,9 +163,6 @@ module _ (ρ : List ℤ) where
   vanishes-sound [] t = refl
   vanishes-sound (t ∷ p) h = vanish-step (t .coef) (den-mono ρ (t .mono)) (den-poly ρ p)
       (zero-of (t .coef) (and-left (isZero (t .coef)) (vanishes p) h)) (vanishes-sound p (and-right (isZero (t .coef)) (vanishes p) h))
-
-pub from-difference : (x y : ℤ) → x -ℤ y ≡ pos 0 → x ≡ y
-from-difference x y e = sym (-ℤ-+ℤ-cancel x y) ∙ ap (λ (t : ℤ). t +ℤ y) e ∙ +ℤ-idl y
 
 pub solve : (ρ : List ℤ) (a b : Ex) → T (vanishes (norm (a ⊖ b))) → den ρ a ≡ den ρ b
 solve ρ a b t = from-difference (den ρ a) (den ρ b) (sym (norm-sound ρ (a ⊖ b)) ∙ vanishes-sound ρ (norm (a ⊖ b)) (true-of t))

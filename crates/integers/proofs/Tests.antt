@@ -1,10 +1,12 @@
 -- Computed tests read as facts. Assumes nothing.
-use mathlib.Core.Path.{_≡_, refl, sym, subst}
-use mathlib.Core.Bool.{Bool, true, false, cond, _&&_, _||_}
+use mathlib.Core.Path.{_≡_, refl, sym, ap, _∙_, subst}
+use mathlib.Core.Bool.{Bool, true, false, not, cond, _&&_, _||_}
 use mathlib.Core.Logic.{_⊎_, inl, inr}
-use Prim.Native.Nat.{zero, suc}
-use lib.Dec.{T}
-use lib.IntN.{ℤ, pos, negsuc, negℤ}
+use Prim.Native.Nat.{ℕ, zero, suc}
+use borrow.Author.Tests.{ltb-true, ltb-false, le-leb, lt-leb}
+use lib.Dec.{T, leb, ltb}
+use lib.IntN.{ℤ, pos, negsuc, _+ℤ_, _-ℤ_, +ℤ-invr, +ℤ-idl, -ℤ-+ℤ-cancel}
+use lib.Signed.{leZ, ltZ}
 use Rattle.integers.specs.Signs.{isZero, isAbove, isBelow}
 
 pub T-of : {b : Bool} → b ≡ true → T b
@@ -29,6 +31,24 @@ pub and-right : (a b : Bool) → (a && b) ≡ true → b ≡ true
 and-right true b e = e
 and-right false b e = not-both e
 
+pub and-none : (a b : Bool) → b ≡ false → false ≡ (a && b)
+and-none true b e = sym e
+and-none false b e = refl
+
+pub and-all : (a b : Bool) → b ≡ true → a ≡ (a && b)
+and-all true b e = sym e
+and-all false b e = refl
+
+pub and-mixed : (a b c d : Bool) → ((a && b) && (c && d)) ≡ ((a && c) && (b && d))
+and-mixed true true c d = refl
+and-mixed true false true d = refl
+and-mixed true false false d = refl
+and-mixed false b c d = refl
+
+pub and-false : (a b : Bool) → (a && b) ≡ false → (a ≡ false) ⊎ (b ≡ false)
+and-false true b e = inr e
+and-false false b e = inl refl
+
 pub or-true : (a b : Bool) → (a || b) ≡ true → (a ≡ true) ⊎ (b ≡ true)
 or-true true b e = inl refl
 or-true false b e = inr e
@@ -52,3 +72,27 @@ pub one-of-three : {P : Type 0} (z : ℤ) → (T (isZero z) → P) → (T (isAbo
 one-of-three (pos zero) f g h = f tt
 one-of-three (pos (suc n)) f g h = g tt
 one-of-three (negsuc n) f g h = h tt
+
+-- the two tests of order are each other's opposites
+le-not-lt : (m n : ℕ) → leb n m ≡ not (ltb m n)
+le-not-lt m n = go (ltb m n) refl
+  where
+    go : (b : Bool) → ltb m n ≡ b → leb n m ≡ not b
+    go true e = lt-leb n m (ltb-true m n e)
+    go false e = le-leb n m (ltb-false m n e)
+
+pub leZ-not-ltZ : (x y : ℤ) → leZ y x ≡ not (ltZ x y)
+leZ-not-ltZ (pos m) (pos n) = le-not-lt m n
+leZ-not-ltZ (pos m) (negsuc n) = refl
+leZ-not-ltZ (negsuc m) (pos n) = refl
+leZ-not-ltZ (negsuc m) (negsuc n) = le-not-lt n m
+
+-- a difference tells whether two numbers are the same
+pub same-zero : (x z : ℤ) → z ≡ x → isZero (z -ℤ x) ≡ true
+same-zero x z e = rw (e, +ℤ-invr x)
+
+pub from-difference : (x y : ℤ) → x -ℤ y ≡ pos 0 → x ≡ y
+from-difference x y e = sym (-ℤ-+ℤ-cancel x y) ∙ ap (λ (t : ℤ). t +ℤ y) e ∙ +ℤ-idl y
+
+pub other-zero : (x z : ℤ) → (z ≡ x → ⊥) → isZero (z -ℤ x) ≡ false
+other-zero x z f = false-of (isZero (z -ℤ x)) (λ e. f (from-difference z x (zero-of (z -ℤ x) e)))

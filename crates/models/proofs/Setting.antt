@@ -1,9 +1,11 @@
 -- Entry numbers counted from a first one, and the entries of the clocks that a transition resets. Assumes nothing.
 use mathlib.Core.Path.{_≡_, refl, ap}
+use mathlib.Core.List.{_∷_}
 use Prim.Native.Nat.{ℕ, zero, suc, _+_, _-_, _<_, _≤_}
 use native.Mathlib.Omega.{arith}
 use lib.ListN.{length}
-use Rattle.integers.specs.Lists.{All, nil, cons, from}
+use native.Mathlib.Decide.{ℕ-discrete}
+use Rattle.integers.specs.Lists.{All, nil, cons, In, here, there, from}
 use Rattle.integers.proofs.Lists.{all-map, all-filter}
 use Rattle.models.specs.Automaton.{bit, reset-entries}
 
@@ -19,6 +21,14 @@ from-within a (suc n) =
   where
     later : (c : ℕ) → suc a ≤ c → c < suc a + n → (a ≤ c) × (c < a + suc n)
     later c h k = (omega arith, omega arith)
+
+pub in-from : (a n i : ℕ) → a ≤ i → i < a + n → In i (from a n)
+in-from a zero i h k = absurd (omega arith)
+in-from a (suc n) i h k = go (ℕ-discrete i a) (λ q. in-from (suc a) n i q (omega arith))
+  where
+    go : Dec (i ≡ a) → (suc a ≤ i → In i (from (suc a) n)) → In i (a ∷ from (suc a) n)
+    go (yes e) f = here e
+    go (no g) f = there (f (omega arith))
 
 -- only clocks are reset, and only those that there are
 pub resets-within : (clocks resets : ℕ) → All (λ c. (8 < c) × (c ≤ 8 + clocks)) (reset-entries clocks resets)

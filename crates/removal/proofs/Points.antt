@@ -41,7 +41,7 @@ same-trans us vs p m q h a b = record {
 }
 
 -- ---- a row that names none of the variables holds at the one where it holds at the other
-apart-or-in : (i : ℕ) (vs : List ℕ) → All (λ v. i ≢ v) vs ⊎ In i vs
+pub apart-or-in : (i : ℕ) (vs : List ℕ) → All (λ v. i ≢ v) vs ⊎ In i vs
 apart-or-in i [] = inl nil
 apart-or-in i (v ∷ vs) = go (ℕ-discrete i v) (apart-or-in i vs)
   where

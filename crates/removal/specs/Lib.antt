@@ -1,2 +1,4 @@
 pub mod Removal
 pub mod Exact
+pub mod Pairs
+pub mod Alone

@@ -1,7 +1,7 @@
 -- Dividing a row, and dividing it down: where it holds after, how large and how wide it is then. Assumes nothing.
 use mathlib.Core.Path.{_≡_, refl, sym, _∙_, ap, ap₂, subst}
 use mathlib.Core.Bool.{Bool, true, false, cond}
-use mathlib.Core.Logic.{_↔_}
+use mathlib.Core.Logic.{_↔_, _≢_}
 use mathlib.Core.List.{List, [], _∷_, map}
 use Prim.Native.Nat.{ℕ, zero, suc, _<_, _∣_}
 use native.Mathlib.Nat.{zero-div, lt-irrefl}
@@ -17,8 +17,8 @@ use Rattle.rows.specs.declared.Row.{Row}
 use Rattle.rows.specs.declared.Fate.{Fate}
 use Rattle.rows.specs.declared.Fate.the-variants.{Kept, Gone, TooLarge}
 use Rattle.rows.specs.declared.Settled.{Settled}
-use Rattle.rows.specs.Rows.{entry-count, at, with-entry, false-row, dot, times, under, Holds, Small, divisor, divided, kept, gone, too-large, all-small, all-zero, limited, constant, divided-down}
-use Rattle.rows.proofs.Sums.{at-with-other}
+use Rattle.rows.specs.Rows.{entry-count, at, with-entry, single, false-row, dot, times, under, Holds, Small, divisor, divided, kept, gone, too-large, all-small, all-zero, limited, constant, divided-down}
+use Rattle.rows.proofs.Sums.{at-with-other, length-with}
 use Rattle.rows.proofs.Sign.{under-scale, under-unscale, under-yes, under-no}
 use Rattle.rows.proofs.Meaning.{dot-times, dot-zero, single-holds}
 use Rattle.rows.proofs.Divisor.{divisor-pos, divisor-divides}
@@ -136,6 +136,9 @@ false-wide : Wide false-row
 unfolding with-entry
 false-wide = refl
 
+pub single-wide : (v : ℕ) (z : ℤ) → v < entry-count → Wide (single v z)
+single-wide v z h = length-with v z (replicate entry-count (pos 0)) h
+
 divided-wide : (r : Row) → length (divided r .entries) ≡ length (r .entries)
 unfolding divided
 divided-wide r = length-map (r .entries) _
@@ -151,6 +154,10 @@ at-zeros : (n i : ℕ) → at (replicate n (pos 0)) i ≡ pos 0
 at-zeros zero i = refl
 at-zeros (suc n) zero = refl
 at-zeros (suc n) (suc i) = at-zeros n i
+
+-- a row of one variable names no other
+pub single-blind : (u v : ℕ) (z : ℤ) → u ≢ v → Blind u (single v z)
+single-blind u v z f = at-with-other v u z (replicate entry-count (pos 0)) f ∙ at-zeros entry-count u
 
 quot-zero : {d : ℤ} → IsPos d → quotZ (pos 0) d ≡ pos 0
 quot-zero (is-pos n) = ap pos (zero-div (suc n))

@@ -1,22 +1,22 @@
 -- What the code needs of entries in 64 bits: sums of products and quotients stay within bounds, and a computed test gives the limit. Assumes nothing.
 use mathlib.Core.Path.{_≡_, refl, sym, ap, ap₂, _∙_}
-use mathlib.Core.Bool.{Bool, true, false}
+use mathlib.Core.Bool.{Bool, true, false, _&&_}
 use mathlib.Core.List.{List, [], _∷_, map}
 use Prim.Native.Nat.{ℕ, zero, suc, _+_, _*_, _^_, _≤_, _<_, zero-le}
 use native.Mathlib.Nat.{zero-div, div-le-self, le-trans}
 use native.Mathlib.Omega.{arith}
 use borrow.Author.Tests.{leb-true}
-use lib.Dec.{leb}
+use lib.Dec.{leb, leb·suc-suc}
 use lib.ListN.{length, drop}
-use lib.IntN.{ℤ, pos, negℤ, natAbs, _+ℤ_, _*ℤ_}
-use lib.Signed.{quotZ}
+use lib.IntN.{ℤ, pos, negsuc, negℤ, natAbs, _+ℤ_, _*ℤ_}
+use lib.Signed.{quotZ, leZ}
 use Rattle.integers.specs.Gcd.{gcd}
 use Rattle.integers.specs.Limits.{entry-limit}
 use Rattle.integers.specs.Lists.{every}
 use Rattle.integers.proofs.Bounds.{natAbs-neg, natAbs-quot, combined-le}
 use Rattle.integers.proofs.Euclid.{gcd-le}
 use Rattle.integers.proofs.Loops.{front, front-all}
-use Rattle.integers.proofs.Tests.{and-left, and-right}
+use Rattle.integers.proofs.Tests.{and-left, and-right, and-all, and-mixed}
 use Rattle.integers.proofs.Whole.{zed, of-pos}
 use Rattle.rows.specs.Rows.{at, under, Within, Small, gcd-from, or-one, divisor, divided, kept, gone, too-large, all-small, all-zero, limited, constant, divided-down, false-row, plus, times, paired}
 use Rattle.rows.specs.declared.Row.{Row}
@@ -46,6 +46,16 @@ small-of [] e i = zero-le
 small-of (z ∷ l) e zero = leb-true _ _ (and-left (leb (natAbs z) entry-limit) (every (λ z. leb (natAbs z) entry-limit) l) e)
 small-of (z ∷ l) e (suc i) = small-of l (and-right (leb (natAbs z) entry-limit) (every (λ z. leb (natAbs z) entry-limit) l) e) i
 
+-- the limit above and below, apart
+one-small : (z : ℤ) → leb (natAbs z) entry-limit ≡ (leZ z (pos entry-limit) && leZ (negℤ (pos entry-limit)) z)
+one-small (pos n) = and-all (leb n entry-limit) true refl
+one-small (negsuc n) = leb·suc-suc n 999999999
+
+pub all-small-both : (l : List ℤ) → all-small l ≡ (every (λ z. leZ z (pos entry-limit)) l && every (λ z. leZ (negℤ (pos entry-limit)) z) l)
+unfolding all-small every
+all-small-both [] = refl
+all-small-both (z ∷ l) = ap₂ {C = Bool} (λ (a b : Bool). a && b) (one-small z) (all-small-both l) ∙ and-mixed (leZ z (pos entry-limit)) (leZ (negℤ (pos entry-limit)) z) _ _
+
 -- ---- a pair, as a loop makes it entry by entry
 module _ (x y : List ℤ) (a b : ℤ) where
   pub front-combined : (o : List ℤ) → length o ≡ length x → length x ≡ length y → front (λ k. b *ℤ at x k +ℤ a *ℤ at y k) (length x) o ≡ plus (times b x) (times a y)
@@ -53,6 +63,9 @@ module _ (x y : List ℤ) (a b : ℤ) where
       front-all (pos 0) _ (length x) o (plus (times b x) (times a y)) h
       (length-plus (times b x) (times a y) (length-times b x ∙ e ∙ sym (length-times a y)) ∙ length-times b x)
       (λ i k. sym (at-plus (times b x) (times a y) i ∙ ap₂ _+ℤ_ (at-times b x i) (at-times a y i)))
+
+pub front-added : (x y o : List ℤ) → length o ≡ length x → length x ≡ length y → front (λ k. at x k +ℤ at y k) (length x) o ≡ plus x y
+front-added x y o h e = front-all (pos 0) _ (length x) o (plus x y) h (length-plus x y e) (λ i k. sym (at-plus x y i))
 
 pub within-paired : (v : ℕ) (r s : Row) → Small (r .entries) → Small (s .entries) → Within (2 ^ 62) (paired v r s .entries)
 within-paired v r s f g i =

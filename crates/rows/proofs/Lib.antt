@@ -8,4 +8,5 @@ pub mod Divisor
 pub mod Fits
 pub mod Dividing
 pub mod Again
+pub mod Adding
 pub mod Stores

@@ -2,18 +2,18 @@
 -- For any width. Assumes nothing.
 use mathlib.Core.Path.{_≡_, refl, sym, _∙_, ap, ap₂}
 use mathlib.Core.Bool.{true}
-use mathlib.Core.Logic.{_↔_}
+use mathlib.Core.Logic.{_↔_, Iff·trans, Iff·rfl}
 use mathlib.Core.List.{List, [], _∷_}
 use Prim.Native.Nat.{ℕ, zero, suc}
 use native.Mathlib.Omega.{arith}
 use lib.ListN.{length, set, replicate}
 use lib.Seq.{set-set}
-use lib.IntN.{ℤ, pos, _+ℤ_, _*ℤ_, +ℤ-idl, +ℤ-idr, +ℤ-comm, +ℤ-assoc, *ℤ-comm, *ℤ-zero, zero-*ℤ}
+use lib.IntN.{ℤ, pos, negsuc, negℤ, _+ℤ_, _*ℤ_, +ℤ-idl, +ℤ-idr, +ℤ-comm, +ℤ-assoc, *ℤ-comm, *ℤ-zero, zero-*ℤ}
 use lib.Signed.{_≤ℤ_}
 use Rattle.integers.specs.Lists.{every}
 use Rattle.integers.specs.Signs.{isZero}
 use Rattle.integers.proofs.Tests.{and-left, and-right, zero-of}
-use Rattle.integers.proofs.Whole.{ring}
+use Rattle.integers.proofs.Whole.{ring, zed, up-neg, dn-neg, neg-*ℤ, one-*ℤ}
 use Rattle.rows.specs.declared.Row.{Row}
 use Rattle.rows.specs.Rows.{at, dot, plus, times, with-entry, single, all-zero, Holds}
 use Rattle.rows.proofs.Sums.{at-with}
@@ -105,7 +105,7 @@ pub dot-blind : (v : ℕ) (l p : List ℤ) → at l v ≡ pos 0 → dot l p ≡ 
 dot-blind v l p e = dot-rest v l p ∙ ap (λ (t : ℤ). rest v l p +ℤ t *ℤ at p v) e ∙ ap (λ (t : ℤ). rest v l p +ℤ t) (zero-*ℤ (at p v)) ∙ +ℤ-idr (rest v l p)
 
 -- ---- one entry changed
-set-zero : (p : List ℤ) (v : ℕ) → at (set p v (pos 0)) v ≡ pos 0
+pub set-zero : (p : List ℤ) (v : ℕ) → at (set p v (pos 0)) v ≡ pos 0
 set-zero [] v = refl
 set-zero (x ∷ p) zero = refl
 set-zero (x ∷ p) (suc v) = set-zero p v
@@ -142,6 +142,16 @@ dot-single v z p = dot-with v z (replicate 16 (pos 0)) p ∙ ap (λ (s : ℤ). s
 
 pub single-holds : (v : ℕ) (z : ℤ) (p : List ℤ) → Holds p (single v z) ↔ ((z *ℤ at p v) ≤ℤ pos 0)
 single-holds v z p = (λ h. rw (dot-single v z p) at h, λ h. rw (dot-single v z p) h)
+
+-- the variable is not below zero; it is not above zero
+minus-one : (x : ℤ) → negsuc 0 *ℤ x ≡ negℤ x
+minus-one x = neg-*ℤ (pos 1) x ∙ ap negℤ (one-*ℤ x)
+
+pub single-above : (v : ℕ) (p : List ℤ) → Holds p (single v (negsuc 0)) ↔ (pos 0 ≤ℤ at p v)
+single-above v p = Iff·trans (single-holds v (negsuc 0) p) (rw minus-one (λ h. omega (zed, up-neg (at p v), dn-neg (at p v)), λ h. omega (zed, up-neg (at p v), dn-neg (at p v))))
+
+pub single-below : (v : ℕ) (p : List ℤ) → Holds p (single v (pos 1)) ↔ (at p v ≤ℤ pos 0)
+single-below v p = Iff·trans (single-holds v (pos 1) p) (rw one-*ℤ Iff·rfl)
 
 -- ---- whether a row holds is decided
 pub holds-dec : (p : List ℤ) (r : Row) → Dec (Holds p r)

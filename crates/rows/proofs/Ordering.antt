@@ -48,7 +48,7 @@ then-right Before q e = before-not-same e
 then-right Same q e = e
 then-right After q e = after-not-same e
 
-number-same : (x y : ℤ) → number-order x y ≡ Same → x ≡ y
+pub number-same : (x y : ℤ) → number-order x y ≡ Same → x ≡ y
 number-same x y = go (ltZ x y) (ltZ y x) refl refl
   where
     go : (b c : Bool) → ltZ x y ≡ b → ltZ y x ≡ c → cond b Before (cond c After Same) ≡ Same → x ≡ y
@@ -77,7 +77,7 @@ row-same r s e =
     let b = flags-same (r .strict) (s .strict) (then-right (entry-order (r .entries) (s .entries)) (flag-order (r .strict) (s .strict)) e) in
     λ i. record { entries = a i; strict = b i }
 
-number-itself : (x : ℤ) → number-order x x ≡ Same
+pub number-itself : (x : ℤ) → number-order x x ≡ Same
 number-itself x = go (ltZ x x) refl
   where
     go : (b : Bool) → ltZ x x ≡ b → cond b Before (cond b After Same) ≡ Same

@@ -27,6 +27,11 @@ pub under-strict : (s : Bool) (z : ℤ) → z <ℤ pos 0 → Under s z
 under-strict true z h = h
 under-strict false z h = omega zed
 
+-- what is below a number under zero is so too
+pub under-less : (s : Bool) (x y : ℤ) → x ≤ℤ y → Under s y → Under s x
+under-less true x y h k = omega zed
+under-less false x y h k = omega zed
+
 -- sums: strict if either is
 pub under-add : (s : Bool) (x y : ℤ) → x ≤ℤ pos 0 → Under s y → Under s (x +ℤ y)
 under-add true x y h k = omega (zed, add-fact x y)

@@ -5,7 +5,7 @@ use mathlib.Core.List.{List, [], _∷_, map}
 use Prim.Native.Nat.{ℕ, zero, suc, _≤_, _<_}
 use native.Mathlib.Nat.{suc-inj, suc-ne-zero, le-of-suc-le-suc, not-suc-le-zero}
 use native.Mathlib.Omega.{arith}
-use lib.ListN.{length, set, length-map, List·getD-map}
+use lib.ListN.{length, set, length-map, length-set, List·getD-map}
 use lib.IntN.{ℤ, pos, _+ℤ_, _*ℤ_, +ℤ-idl, +ℤ-idr, *ℤ-zero}
 use Rattle.rows.specs.Rows.{at, plus, times, with-entry}
 
@@ -57,3 +57,6 @@ unfolding with-entry
 with-set v z [] h = absurd (not-suc-le-zero h)
 with-set zero z (a ∷ l) h = refl
 with-set (suc v) z (a ∷ l) h = ap {B = List ℤ} (λ k. a ∷ k) (with-set v z l (le-of-suc-le-suc h))
+
+pub length-with : (v : ℕ) (z : ℤ) (l : List ℤ) → v < length l → length (with-entry v z l) ≡ length l
+length-with v z l h = ap length (with-set v z l h) ∙ length-set l v z

@@ -5,7 +5,7 @@ use mathlib.Core.List.{List, [], _∷_, _++_, map}
 use Prim.Native.Nat.{ℕ, zero, suc, _+_, _*_, _≤_}
 use lib.Dec.{leb, eqb}
 use lib.ListN.{getD, take, drop, replicate}
-use lib.IntN.{ℤ, pos, negsuc, negℤ, natAbs, _+ℤ_, _*ℤ_}
+use lib.IntN.{ℤ, pos, negsuc, negℤ, natAbs, _+ℤ_, _-ℤ_, _*ℤ_}
 use lib.Signed.{quotZ, ltZ, leZ, _≤ℤ_, _<ℤ_}
 use Rattle.integers.specs.Gcd.{gcd}
 use Rattle.integers.specs.Limits.{entry-limit}
@@ -157,6 +157,17 @@ paired v r s = record {
   entries = plus (times (negℤ (at (s .entries) v)) (r .entries)) (times (at (r .entries) v) (s .entries));
   strict = r .strict || s .strict;
 }
+
+-- the plain sum of two rows: what a pair is a multiple of where its two multipliers are equal
+abbrev pub added : Row → Row → Row
+added r s = record { entries = plus (r .entries) (s .entries); strict = r .strict || s .strict }
+
+abbrev pub is-not : ℤ → ℤ → Bool
+is-not x z = not (isZero (z -ℤ x))
+
+-- a variable has the entry 1 or −1: then the row is divided down already
+unfoldable pub has-one : Row → Bool
+has-one r = not (every (is-not (pos 1)) (drop 1 (r .entries)) && every (is-not (negsuc 0)) (drop 1 (r .entries)))
 
 -- ---- the order of rows: entries 0 to 15 as signed numbers, then non-strict before strict
 abbrev pub then-by : Order → Order → Order

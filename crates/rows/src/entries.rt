@@ -3,10 +3,11 @@ ghost use mathlib.Core.Path.{_≡_};
 ghost use mathlib.Core.List.{map};
 ghost use Prim.Native.Nat.{ℕ, _≤_, _<_, _^_};
 ghost use lib.ListN.{drop};
-ghost use lib.IntN.{ℤ, pos, natAbs};
-ghost use lib.Signed.{quotZ};
+ghost use lib.IntN.{ℤ, pos, negℤ, natAbs};
+ghost use lib.Signed.{quotZ, leZ};
 ghost use Rattle.integers.specs.Limits.{entry-limit};
-ghost use Rattle.rows.specs.Rows.{Within, Small, gcd-from, divisor, all-small, all-zero, plus, times};
+ghost use Rattle.integers.specs.Lists.{every};
+ghost use Rattle.rows.specs.Rows.{Within, Small, gcd-from, divisor, all-small, all-zero, plus, times, is-not};
 
 pub fn widened(from: [i32; 16]) -> [i64; 16]
     ensures { λ r. ⌜ r ≡ from ⌝ }
@@ -61,7 +62,7 @@ pub fn all_small(l: [i64; 16]) -> bool
     ensures { λ r. ⌜ r ≡ all-small l ⌝ }
 {
     for i in 0..16 {
-        if crate::Row::LIMIT < integers::magnitude(l[i]) {
+        if (crate::Row::LIMIT as u64) < integers::magnitude(l[i]) {
             return false;
         }
     }
@@ -89,4 +90,59 @@ pub fn combined(x: [i64; 16], y: [i64; 16], a: i64, b: i64) -> [i64; 16]
         to[i] = integers::combined(x[i], y[i], a, b);
     }
     to
+}
+
+pub fn added(x: [i32; 16], y: [i32; 16]) -> [i32; 16]
+    requires { ⌜ Small x × Small y ⌝ }
+    ensures { λ r. ⌜ r ≡ plus x y ⌝ }
+{
+    let mut to = [0i32; 16];
+    for i in 0..16 {
+        to[i] = x[i] + y[i];
+    }
+    to
+}
+
+// Whether no variable has this entry. There is no way out of this loop and the next two, so that the compiler takes the entries together.
+pub fn none_is(l: [i32; 16], x: i32) -> bool
+    ensures { λ r. ⌜ r ≡ every (is-not x) (drop 1 l) ⌝ }
+{
+    let mut none = true;
+    for i in 1..16 {
+        if l[i] == x {
+            none = false;
+        }
+    }
+    none
+}
+
+// Whether no entry is beyond the limit.
+pub fn within_limit(l: [i32; 16]) -> bool
+    ensures { λ r. ⌜ r ≡ all-small l ⌝ }
+{
+    if none_above(l) { none_below(l) } else { false }
+}
+
+fn none_above(l: [i32; 16]) -> bool
+    ensures { λ r. ⌜ r ≡ every (λ z. leZ z (pos entry-limit)) l ⌝ }
+{
+    let mut none = true;
+    for i in 0..16 {
+        if crate::Row::LIMIT < l[i] {
+            none = false;
+        }
+    }
+    none
+}
+
+fn none_below(l: [i32; 16]) -> bool
+    ensures { λ r. ⌜ r ≡ every (λ z. leZ (negℤ (pos entry-limit)) z) l ⌝ }
+{
+    let mut none = true;
+    for i in 0..16 {
+        if l[i] < -crate::Row::LIMIT {
+            none = false;
+        }
+    }
+    none
 }

@@ -6,7 +6,7 @@ ghost use lib.Dec.{leb};
 ghost use lib.ListN.{length, drop};
 ghost use lib.IntN.{ℤ, pos};
 ghost use Rattle.integers.specs.Limits.{given-limit};
-ghost use Rattle.rows.specs.Rows.{entry-count, row-numbers, set-rows, set-numbers, parameter-entry, clock-entry, delay-entry, empty-row, single, false-row, dot, under, holds-at, Within, Small, negated, constant, divided-down, paired, flag-order, row-order, flag, row-at, with-row};
+ghost use Rattle.rows.specs.Rows.{entry-count, row-numbers, set-rows, set-numbers, parameter-entry, clock-entry, delay-entry, empty-row, single, false-row, dot, under, holds-at, Within, Small, negated, constant, divided-down, limited, paired, added, has-one, flag-order, row-order, flag, row-at, with-row};
 
 mod entries;
 
@@ -94,7 +94,7 @@ impl Row {
 
     pub const DELAY: usize = 15;
 
-    pub const LIMIT: u64 = 1_000_000_000;
+    pub const LIMIT: i32 = 1_000_000_000;
 
     pub fn empty() -> Row
         ensures { λ r. ⌜ r ≡ empty-row ⌝ }
@@ -185,6 +185,47 @@ impl Row {
             entries::combined(entries::widened(x), entries::widened(y), a, b),
             either(self.strict, other.strict),
         )
+    }
+
+    // Inner step: the plain sum of two rows of a set, which 32 bits hold.
+    pub fn added(self, other: Row) -> Row
+        requires { ⌜ Small (self .entries) × Small (other .entries) ⌝ }
+        ensures { λ r. ⌜ r ≡ added self other ⌝ }
+    {
+        let x = self.entries;
+        let y = other.entries;
+        Row {
+            entries: entries::added(x, y),
+            strict: either(self.strict, other.strict),
+        }
+    }
+
+    // Whether a variable has the entry 1 or -1.
+    pub fn has_one(self) -> bool
+        ensures { λ r. ⌜ r ≡ has-one self ⌝ }
+    {
+        let e = self.entries;
+        if entries::none_is(e, 1) {
+            return !entries::none_is(e, -1);
+        }
+        true
+    }
+
+    // The row as it is, or 9 where an entry is beyond the limit.
+    pub fn limited(self) -> Settled
+        ensures { λ r. ⌜ r ≡ limited self ⌝ }
+    {
+        let e = self.entries;
+        if entries::within_limit(e) {
+            return Settled {
+                row: self,
+                fate: Fate::Kept,
+            };
+        }
+        Settled {
+            row: Row::empty(),
+            fate: Fate::TooLarge,
+        }
     }
 
     // Inner step: the row's sum at a setting, a denominator and eight numerators, none beyond 1,000,000.

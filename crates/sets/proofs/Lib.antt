@@ -3,3 +3,10 @@ pub mod Joining
 pub mod Ordered
 pub mod Canon
 pub mod Tests
+pub mod Parts
+pub mod Stores
+pub mod Places
+pub mod Moving
+pub mod Comparing
+pub mod Steps
+pub mod Only

@@ -16,7 +16,7 @@ use Rattle.rows.proofs.Ordering.{row-same, row-itself}
 use Rattle.rows.proofs.Dividing.{never}
 use Rattle.sets.specs.Sets.{is-same, same-row, stands-in, same-rows, any-false}
 
-order-same : (o : Order) → is-same o ≡ true → o ≡ Same
+pub order-same : (o : Order) → is-same o ≡ true → o ≡ Same
 order-same Before e = not-both e
 order-same Same e = refl
 order-same After e = not-both e

@@ -64,6 +64,7 @@ all-small-spec =
     (λ c. (search needs, refl))
     (λ c. search needs)
     (λ c. search needs)
+    (λ c. search needs)
     (λ c κs. search needs)
     returns
     (λ c. search needs)
