@@ -12,9 +12,9 @@ use Rattle.models.specs.Runs.{Trace, reference-setting}
 use Rattle.models.proofs.Shape.{Shaped}
 use Rattle.models.proofs.Accepted.{shaped}
 use Rattle.method.specs.Method.{Ending}
-use Rattle.method.specs.Entry.{Stores, limits, run}
-use Rattle.method.proofs.Entry.{ran}
-use Rattle.guarantee.specs.Promise.{Guarantee, Demand3, RegionFormed, SomeTrace}
+use Rattle.method.specs.Entry.{Stores, Run, limits, run}
+use Rattle.method.proofs.Entry.{ran, ran-hex}
+use Rattle.guarantee.specs.Promise.{Guarantee, Demand3, Demand3Hex, RegionFormed, SomeTrace}
 use Rattle.guarantee.proofs.Common.{reference-is, begins}
 use Rattle.guarantee.proofs.Points.{reference-invariant}
 use Rattle.guarantee.proofs.Ending.{Ended, method-ended, same-traces}
@@ -49,6 +49,15 @@ module _ (budget : ℕ) (m : Model) (s : Stores) (o : run budget m s .ending .ou
 
 pub demand-3 : Demand3
 demand-3 budget m s o = guaranteed (automaton m) (run-shaped budget m s o) (run budget m s .ending .region) (run-ended budget m s o)
+
+pub demand-3-hex : Demand3Hex
+demand-3-hex budget input s o =
+    let x = ran-hex budget input s o in
+    record {
+      model = x .model;
+      is-read = x .is-read;
+      guarantee = subst (λ (r : Run). r .ending .outcome ≡ Found → Guarantee (automaton (x .model)) (r .ending .region)) (sym (x .same)) (demand-3 budget (x .model) s) o;
+    }
 
 pub region-formed : RegionFormed
 region-formed budget m s o =

@@ -1,13 +1,13 @@
 -- The marked examples M1 to M10 and the further ones (rules, "Marked examples"), as one claim about the definitions.
 use mathlib.Core.Path.{_≡_}
 use mathlib.Core.Bool.{Bool, true, false}
-use mathlib.Core.List.{List, [], _∷_}
+use mathlib.Core.List.{List, [], _∷_, _++_}
 use Prim.Native.Nat.{ℕ, _*_}
 use lib.ListN.{replicate}
 use lib.IntN.{ℤ, pos, negℤ}
 use Rattle.rows.specs.declared.Row.{Row}
 use Rattle.rows.specs.Rows.{entry-count, row-numbers, set-numbers, with-entry, false-row, negated, kept, gone, too-large, divided-down}
-use Rattle.sets.specs.declared.Refusal.the-variants.{EntryTooLarge, BudgetUsed}
+use Rattle.sets.specs.declared.Refusal.the-variants.{Misplaced, EntryTooLarge, BudgetUsed}
 use Rattle.sets.specs.declared.Outcome.{Outcome}
 use Rattle.sets.specs.declared.Outcome.the-variants.{Found, Refused}
 use Rattle.sets.specs.Outcomes.{found, refused}
@@ -18,7 +18,9 @@ use Rattle.models.specs.declared.Transition.{Transition}
 use Rattle.models.specs.declared.ModelRow.{ModelRow}
 use Rattle.models.specs.declared.Model.{Model}
 use Rattle.method.specs.Method.{Ending}
-use Rattle.method.specs.Entry.{Stores, empty-record, run}
+use Rattle.frames.specs.Hex.{line-of}
+use Rattle.frames.specs.Writing.{answer-lines}
+use Rattle.method.specs.Entry.{Stores, empty-record, run, run-hex}
 
 -- ---- rows of a few terms: entries 0 the constant, 1 to 3 the parameters p1 to p3, 9 and 10 the clocks x1 and x2
 abbrev pub none : List ℤ
@@ -103,6 +105,33 @@ lent = record {
 abbrev pub answer : ℕ → Model → Ending
 answer budget m = run budget m lent .ending
 
+-- M9 as the program reads it, and its whole output: one line a frame, its bytes in hexadecimal
+abbrev pub toy-input : List ℕ
+toy-input =
+    line-of (0x01 ∷ 0x02 ∷ 0x03 ∷ 0x03 ∷ 0x02 ∷ [])
+    ++ line-of (0x02 ∷ 0x00 ∷ 0x00 ∷ 0x00 ∷ 0x01 ∷ 0x00 ∷ 0x00 ∷ 0x00 ∷ 0x04 ∷ 0x00 ∷ 0x00 ∷ 0x00 ∷ 0x02 ∷ 0x00 ∷ 0x00 ∷ 0x00 ∷ 0x06 ∷ [])
+    ++ line-of (0x04 ∷ 0x00 ∷ 0x0A ∷ 0x01 ∷ 0x01 ∷ [])
+    ++ line-of (0x04 ∷ 0x00 ∷ 0x0B ∷ 0x02 ∷ 0x00 ∷ [])
+    ++ line-of (0x03 ∷ 0x01 ∷ 0x00 ∷ 0x00 ∷ 0x02 ∷ 0x01 ∷ 0xFF ∷ 0xFF ∷ 0xFF ∷ 0xFF ∷ 0x09 ∷ 0x00 ∷ 0x00 ∷ 0x00 ∷ 0x01 ∷ [])
+    ++ line-of (0x03 ∷ 0x02 ∷ 0x00 ∷ 0x00 ∷ 0x02 ∷ 0x02 ∷ 0x00 ∷ 0x00 ∷ 0x00 ∷ 0x01 ∷ 0x0A ∷ 0xFF ∷ 0xFF ∷ 0xFF ∷ 0xFF ∷ [])
+    ++ line-of (0x03 ∷ 0x02 ∷ 0x01 ∷ 0x00 ∷ 0x02 ∷ 0x03 ∷ 0x00 ∷ 0x00 ∷ 0x00 ∷ 0x01 ∷ 0x09 ∷ 0xFF ∷ 0xFF ∷ 0xFF ∷ 0xFF ∷ [])
+
+abbrev pub toy-output : List ℕ
+toy-output =
+    line-of (0x05 ∷ 0x00 ∷ 0x00 ∷ 0x02 ∷ 0x00 ∷ 0x01 ∷ 0x00 ∷ 0x00 ∷ 0x00 ∷ 0x04 ∷ 0x05 ∷ [])
+    ++ line-of (0x03 ∷ 0x00 ∷ 0x00 ∷ 0x00 ∷ 0x01 ∷ 0x01 ∷ 0xFF ∷ 0xFF ∷ 0xFF ∷ 0xFF ∷ [])
+    ++ line-of (0x03 ∷ 0x00 ∷ 0x00 ∷ 0x00 ∷ 0x02 ∷ 0x01 ∷ 0xFF ∷ 0xFF ∷ 0xFF ∷ 0xFF ∷ 0x02 ∷ 0x00 ∷ 0x00 ∷ 0x00 ∷ 0x01 ∷ [])
+    ++ line-of (0x03 ∷ 0x00 ∷ 0x00 ∷ 0x00 ∷ 0x01 ∷ 0x02 ∷ 0xFF ∷ 0xFF ∷ 0xFF ∷ 0xFF ∷ [])
+    ++ line-of (0x03 ∷ 0x00 ∷ 0x00 ∷ 0x00 ∷ 0x01 ∷ 0x03 ∷ 0xFF ∷ 0xFF ∷ 0xFF ∷ 0xFF ∷ [])
+    ++ line-of (0x03 ∷ 0x00 ∷ 0x00 ∷ 0x01 ∷ 0x02 ∷ 0x01 ∷ 0x00 ∷ 0x00 ∷ 0x00 ∷ 0x01 ∷ 0x03 ∷ 0xFF ∷ 0xFF ∷ 0xFF ∷ 0xFF ∷ [])
+
+abbrev pub written : Ending → List ℕ
+written e = answer-lines (e .outcome) (e .states) (e .attempts) (e .formed) (e .region)
+
+-- what the program prints for an input
+abbrev pub printed : List ℕ → List ℕ
+printed input = written (run-hex 100000 input lent .ending)
+
 -- ---- the claim
 pub record Marked : Type 0 where
   -- M1, M6, M7: x1 removed
@@ -120,7 +149,9 @@ pub record Marked : Type 0 where
   -- M9, M10: the whole answer
   pub m9 : answer 100000 (toy 1 (pos 4 ∷ pos 2 ∷ pos 6 ∷ []) 2) ≡ found-with 2 1 4 toy-region
   pub m10 : answer 100000 contradiction ≡ found-with 1 1 2 (strictly (sub 1 0 (add 1 1 (sub 1 2 none))) ∷ loose (sub 1 1 none) ∷ loose (sub 1 2 none) ∷ [])
-  -- no transitions with budget 0; M9 with budgets 3 and 4; the reference 8, 4, 12 over 2
+  pub m9-hex : printed toy-input ≡ toy-output
+  -- empty input; no transitions with budget 0; M9 with budgets 3 and 4; the reference 8, 4, 12 over 2
+  pub empty-input : run-hex 100000 [] lent .ending .outcome ≡ Refused Misplaced
   pub budget-0 : answer 0 still ≡ found-with 1 0 0 (loose (sub 1 1 none) ∷ loose (sub 1 2 none) ∷ loose (sub 1 3 none) ∷ [])
   pub budget-3 : answer 3 (toy 1 (pos 4 ∷ pos 2 ∷ pos 6 ∷ []) 2) ≡ record { outcome = Refused BudgetUsed; states = 2; attempts = 1; formed = 3; region = [] }
   pub budget-4 : answer 4 (toy 1 (pos 4 ∷ pos 2 ∷ pos 6 ∷ []) 2) ≡ found-with 2 1 4 toy-region

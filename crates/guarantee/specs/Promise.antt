@@ -10,11 +10,13 @@ use Rattle.integers.specs.Lists.{All}
 use Rattle.rows.specs.declared.Row.{Row}
 use Rattle.rows.specs.Rows.{set-rows, at, Small}
 use Rattle.sets.specs.declared.Outcome.the-variants.{Found}
+use Rattle.sets.specs.Outcomes.{found}
 use Rattle.sets.specs.Sets.{InOrder}
 use Rattle.models.specs.declared.Model.{Model}
 use Rattle.models.specs.Automaton.{Automaton, automaton}
 use Rattle.models.specs.Runs.{Fraction, NotNegative, Meets, at-zero, Event, Trace, reference-setting}
-use Rattle.method.specs.Entry.{Stores, run}
+use Rattle.frames.specs.Reading.{read}
+use Rattle.method.specs.Entry.{Stores, run, run-hex}
 
 -- a setting of an automaton: a rational that is not negative for each parameter
 pub record Setting (a : Automaton) (ps : List Fraction) : Type 0 where
@@ -34,6 +36,16 @@ pub record Guarantee (a : Automaton) (region : List Row) : Type 0 where
 abbrev pub Demand3 : Type 0
 Demand3 = (budget : ℕ) (m : Model) (s : Stores) → run budget m s .ending .outcome ≡ Found →
     Guarantee (automaton m) (run budget m s .ending .region)
+
+-- the same of a model in hex bytes: it was read to tables, and these are what is promised of
+pub record ReadGuarantee (input : List ℕ) (region : List Row) : Type 0 where
+  pub model : Model
+  pub is-read : read input ≡ found model
+  pub guarantee : Guarantee (automaton model) region
+
+abbrev pub Demand3Hex : Type 0
+Demand3Hex = (budget : ℕ) (input : List ℕ) (s : Stores) → run-hex budget input s .ending .outcome ≡ Found →
+    ReadGuarantee input (run-hex budget input s .ending .region)
 
 -- ---- two things that a careful reader asks
 -- the form of the region: in set order with no row twice, at most 128 rows, entries within ±1,000,000,000, parameters only

@@ -1,0 +1,16 @@
+//! A second program for document 01, written from its words alone.
+//!
+//! Numbers are wide and checked, sets are sorted vectors and nothing is lent inside;
+//! the lent stores appear only in `store`, which says what each must hold at the end.
+
+pub mod bytes;
+pub mod explore;
+pub mod frames;
+pub mod gen;
+pub mod method;
+pub mod model;
+pub mod removal;
+pub mod row;
+pub mod set;
+pub mod store;
+pub mod text;
