@@ -1,9 +1,12 @@
--- Laws of `All`: what `filter`, `map`, `++` and all pairs of two lists do to a property of every element. Assumes nothing.
+-- Laws of `All`: what `filter`, `map`, `++` and all pairs of two lists do to a property of every element; and of `filter`. Assumes nothing.
 use mathlib.Core.Bool.{Bool, true, false, cond, _&&_}
 use mathlib.Core.Path.{_≡_, refl, sym, ap, _∙_, subst}
 use mathlib.Core.Logic.{_↔_}
 use mathlib.Core.List.{List, [], _∷_, _++_, map}
+use Prim.Native.Nat.{suc, _≤_, zero-le}
+use native.Mathlib.Omega.{arith}
 use lib.Dec.{T}
+use lib.ListN.{length}
 use Rattle.integers.specs.Lists.{All, nil, cons, In, here, there, every, filter, pairs}
 use Rattle.integers.proofs.Tests.{and-left, and-right, and-mixed}
 
@@ -80,3 +83,22 @@ module _ {A : Type 0} where
   unfolding every
   every-both f g [] = refl
   every-both f g (x ∷ l) = ap (λ (b : Bool). (f x && g x) && b) (every-both f g l) ∙ and-mixed (f x) (g x) (every f l) (every g l)
+
+  -- the elements of two lists that pass a test
+  pub filter-append : (f : A → Bool) (l m : List A) → filter f (l ++ m) ≡ filter f l ++ filter f m
+  unfolding filter
+  filter-append f [] m = refl
+  filter-append f (x ∷ l) m = go (f x) (filter-append f l m)
+    where
+      go : (b : Bool) → filter f (l ++ m) ≡ filter f l ++ filter f m → cond b (x ∷ filter f (l ++ m)) (filter f (l ++ m)) ≡ cond b (x ∷ filter f l) (filter f l) ++ filter f m
+      go true e = ap {B = List A} (λ k. x ∷ k) e
+      go false e = e
+
+  pub length-filter : (f : A → Bool) (l : List A) → length (filter f l) ≤ length l
+  unfolding filter
+  length-filter f [] = zero-le
+  length-filter f (x ∷ l) = go (f x) (length-filter f l)
+    where
+      go : (b : Bool) → length (filter f l) ≤ length l → length (cond b (x ∷ filter f l) (filter f l)) ≤ suc (length l)
+      go true h = omega arith
+      go false h = omega arith

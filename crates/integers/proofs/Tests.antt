@@ -2,8 +2,9 @@
 use mathlib.Core.Path.{_≡_, refl, sym, ap, _∙_, subst}
 use mathlib.Core.Bool.{Bool, true, false, not, cond, _&&_, _||_}
 use mathlib.Core.Logic.{_⊎_, inl, inr}
-use Prim.Native.Nat.{ℕ, zero, suc}
-use borrow.Author.Tests.{ltb-true, ltb-false, le-leb, lt-leb}
+use Prim.Native.Nat.{ℕ, zero, suc, zero-le}
+use native.Mathlib.Nat.{zero-lt-suc}
+use borrow.Author.Tests.{ltb-true, ltb-false, le-leb, lt-leb, lt-ltb, le-ltb}
 use lib.Dec.{T, leb, ltb}
 use lib.IntN.{ℤ, pos, negsuc, _+ℤ_, _-ℤ_, +ℤ-invr, +ℤ-idl, -ℤ-+ℤ-cancel}
 use lib.Signed.{leZ, ltZ}
@@ -86,6 +87,16 @@ leZ-not-ltZ (pos m) (pos n) = le-not-lt m n
 leZ-not-ltZ (pos m) (negsuc n) = refl
 leZ-not-ltZ (negsuc m) (pos n) = refl
 leZ-not-ltZ (negsuc m) (negsuc n) = le-not-lt n m
+
+-- the sign by the test of order
+pub above-lt : (z : ℤ) → isAbove z ≡ ltZ (pos 0) z
+above-lt (pos zero) = refl
+above-lt (pos (suc n)) = sym (lt-ltb 0 (suc n) (zero-lt-suc n))
+above-lt (negsuc n) = refl
+
+pub below-lt : (z : ℤ) → isBelow z ≡ ltZ z (pos 0)
+below-lt (pos n) = sym (le-ltb n 0 zero-le)
+below-lt (negsuc n) = refl
 
 -- a difference tells whether two numbers are the same
 pub same-zero : (x z : ℤ) → z ≡ x → isZero (z -ℤ x) ≡ true

@@ -23,7 +23,7 @@ use Rattle.removal.proofs.Points.{same-sym, blind-holds, move, dot-move
 use Rattle.removal.proofs.Choose.{choose}
 
 -- ---- a list is its three parts, by the sign of the entry
-above-of : (z : ℤ) → T (isAbove z) → IsPos z
+pub above-of : (z : ℤ) → T (isAbove z) → IsPos z
 above-of (pos zero) t = absurd t
 above-of (pos (suc n)) t = is-pos n
 above-of (negsuc n) t = absurd t

@@ -5,3 +5,12 @@ pub mod Several
 pub mod Empty
 pub mod Steps
 pub mod Kept
+pub mod Places
+pub mod Joins
+pub mod Ends
+pub mod AtOnce
+pub mod Making
+pub mod Between
+pub mod Turns
+pub mod Alone
+pub mod Only

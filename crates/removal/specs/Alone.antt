@@ -1,10 +1,10 @@
 -- Removal between two lent stores, and removal called alone (rules, "Rows and sets" and "Numbers of the outcomes").
 use mathlib.Core.Path.{_≡_}
 use mathlib.Core.Bool.{Bool, true, false, not, cond, _&&_, _||_}
-use mathlib.Core.List.{List, [], _∷_}
+use mathlib.Core.List.{List, [], _∷_, _++_}
 use Prim.Native.Nat.{ℕ, zero, suc, _+_, _*_, _≤_}
 use lib.Dec.{leb, ltb}
-use lib.ListN.{length, take, getD}
+use lib.ListN.{length, take, drop, getD}
 use lib.IntN.{ℤ, pos}
 use denote.Ref.{RefT, now}
 use Rattle.integers.specs.Lists.{All, every, from}
@@ -15,6 +15,7 @@ use Rattle.sets.specs.declared.Refusal.{Refusal}
 use Rattle.sets.specs.declared.Refusal.the-variants.{Undeclared, TooManyRows, ShortStore}
 use Rattle.sets.specs.declared.Outcome.{Outcome}
 use Rattle.sets.specs.declared.Outcome.the-variants.{Found, Refused}
+use Rattle.sets.specs.declared.Joined.{Joined}
 use Rattle.sets.specs.Outcomes.{outcome-number, Result, found, refused, and-then}
 use Rattle.sets.specs.Sets.{joined}
 use Rattle.sets.specs.Stores.{numbers-of, rows-at, set-in, zeroed, with-rows, HoldsSet, Touched}
@@ -34,6 +35,14 @@ side-after second (v ∷ vs) = side-after (not second) vs
 abbrev pub placed : Bool → Result (List Row) → Placed
 placed second (found t) = record { rows = length t; second = second; outcome = Found }
 placed second (refused r) = record { rows = 0; second = false; outcome = Refused r }
+
+-- a step's answer, with the store that it wrote
+abbrev pub placed-by : Bool → ℕ → Outcome → Placed
+placed-by second n Found = record { rows = n; second = second; outcome = Found }
+placed-by second n (Refused r) = placed second (refused r)
+
+abbrev pub placed-as : Bool → Joined → Placed
+placed-as second c = placed-by second (c .rows) (c .outcome)
 
 -- the set that an answer speaks of, or its refusal
 abbrev pub standing-by : List ℤ → ℕ → Outcome → Result (List Row)
@@ -101,6 +110,16 @@ abbrev pub store-after : Bool → Result (List Row) → List ℤ → List ℤ
 store-after true (found t) s = with-rows t (zeroed s)
 store-after false (found t) s = zeroed s
 store-after here (refused r) s = zeroed s
+
+-- what clearing leaves of a store: the first n rows where they were found here, and zeros
+abbrev pub tidied : Outcome → Bool → ℕ → List ℤ → List ℤ
+tidied Found true n s = take (n * row-numbers) s ++ drop (n * row-numbers) (zeroed s)
+tidied Found false n s = zeroed s
+tidied (Refused r) here n s = zeroed s
+
+pub record Tidied (s : Placed) (a b a′ b′ : List ℤ) : Type 0 where
+  pub first : a′ ≡ tidied (s .outcome) (not (s .second)) (s .rows) a
+  pub second : b′ ≡ tidied (s .outcome) (s .second) (s .rows) b
 
 abbrev pub answer-by : Outcome → ℕ → List ℕ → List ℤ → Placed
 answer-by Found count vs a = placed (side-after false vs) (alone count vs a)

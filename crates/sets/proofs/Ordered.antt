@@ -1,8 +1,9 @@
--- Sets are in order: insertion and joining keep it, and in an ordered list no row stands twice. Assumes nothing.
+-- Sets are in order: insertion, joining and leaving rows out keep it, and in an ordered list no row stands twice. Assumes nothing.
 use mathlib.Core.Path.{_≡_, refl}
+use mathlib.Core.Bool.{Bool, true, false, cond}
 use mathlib.Core.List.{List, [], _∷_, _++_}
-use Rattle.integers.specs.Lists.{All, nil, cons, In}
-use Rattle.integers.proofs.Lists.{all-map, all-of, all-in}
+use Rattle.integers.specs.Lists.{All, nil, cons, In, filter}
+use Rattle.integers.proofs.Lists.{all-map, all-of, all-in, all-filter}
 use Rattle.rows.specs.declared.Row.{Row}
 use Rattle.rows.specs.declared.Order.{Order}
 use Rattle.rows.specs.declared.Order.the-variants.{Before, Same, After}
@@ -59,3 +60,17 @@ first-before {r = r} (more {s = s} e h) = cons e (all-map (λ t f. row-trans r s
 pub no-twice : (k : List Row) (r : Row) (l : List Row) → InOrder (k ++ r ∷ l) → ¬ In r l
 no-twice [] r l h i = before-differs r r (all-in (first-before h) i) refl
 no-twice (s ∷ k) r l h i = no-twice k r l (order-tail h) i
+
+-- ---- some rows of a set are in order too
+pub order-cons : {r : Row} {l : List Row} → All (λ s. row-order r s ≡ Before) l → InOrder l → InOrder (r ∷ l)
+order-cons nil h = one
+order-cons (cons e a) h = more e h
+
+pub filter-ordered : (f : Row → Bool) (l : List Row) → InOrder l → InOrder (filter f l)
+unfolding filter
+filter-ordered f [] h = none
+filter-ordered f (r ∷ l) h = go (f r) (filter-ordered f l (order-tail h)) (all-filter f l .1 (all-map (λ s e t. e) (first-before h)))
+  where
+    go : (b : Bool) → InOrder (filter f l) → All (λ s. row-order r s ≡ Before) (filter f l) → InOrder (cond b (r ∷ filter f l) (filter f l))
+    go true o a = order-cons a o
+    go false o a = o

@@ -9,7 +9,7 @@ use native.Mathlib.Nat.{le-of-suc-le-suc, not-suc-le-zero, zero-lt-suc, eq-or-lt
 use native.Mathlib.Numerals.{add-one}
 use lib.ListN.{length, getD, take, drop}
 use Rattle.integers.proofs.Tests.{false-of}
-use Rattle.integers.proofs.Lists.{all-in}
+use Rattle.integers.proofs.Lists.{all-head, all-in, all-append}
 use Rattle.rows.specs.declared.Row.{Row}
 use Rattle.rows.specs.declared.Order.{Order}
 use Rattle.rows.specs.declared.Order.the-variants.{Before, Same, After}
@@ -83,6 +83,13 @@ insert-at r l k e = insert-placed r l ∙ ap (λ (p : Place). placed p r l) (sym
 
 pub insert-standing : (r : Row) (l : List Row) → Standing ≡ place-of r l → insert r l ≡ l
 insert-standing r l e = insert-placed r l ∙ ap (λ (p : Place). placed p r l) (sym e)
+
+-- behind all others it is put last
+pub insert-last : (s : List Row) (r : Row) (l : List Row) → InOrder (s ++ r ∷ l) → insert r s ≡ s ++ r ∷ []
+unfolding insert
+insert-last [] r l h = refl
+insert-last (x ∷ s) r l h =
+    rw (before-after x r (all-head (all-append s (r ∷ l) .0 (first-before h) .1))) (ap {B = List Row} (λ k. x ∷ k) (insert-last s r l (order-tail h)))
 
 abbrev Room : Place → ℕ → Type 0
 Room Standing n = Unit {0}

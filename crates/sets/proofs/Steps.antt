@@ -1,20 +1,20 @@
 -- Steps on a set in a store: a row inserted, a settled row put, rows joined one by one; and what a step leaves for the next. Assumes nothing.
 use mathlib.Core.Path.{_≡_, refl, sym, ap, ap₂, _∙_}
 use mathlib.Core.Bool.{Bool, true, false, cond}
-use mathlib.Core.List.{List, [], _∷_, _++_, append-assoc}
+use mathlib.Core.List.{List, [], _∷_, _++_, append-assoc, append-nil}
 use Prim.Native.Nat.{ℕ, suc, _+_, _-_, _*_, _≤_, _<_}
 use native.Mathlib.Omega.{arith}
 use native.Mathlib.Nat.{le-refl, le-trans, add-zero, sub-zero}
 use borrow.Author.Tests.{le-leb, lt-leb, leb-true, leb-false}
 use lib.Dec.{leb}
 use lib.ListN.{length, take, drop, length-append, length-drop}
-use lib.Seq.{length-take-le, take-take}
+use lib.Seq.{length-take-le, take-take, append-snoc}
 use lib.IntN.{ℤ}
 use Rattle.integers.specs.Lists.{All, cons}
 use Rattle.rows.specs.declared.Row.{Row}
 use Rattle.rows.specs.declared.Fate.{Fate}
 use Rattle.rows.specs.declared.Fate.the-variants.{Kept, Gone, TooLarge}
-use Rattle.rows.specs.Rows.{row-numbers, set-rows, set-numbers, Small, numbers, divided-down, row-at, with-row}
+use Rattle.rows.specs.Rows.{row-numbers, set-rows, set-numbers, Small, numbers, kept, divided-down, row-at, with-row}
 use Rattle.rows.proofs.Dividing.{Wide, IfKept, divided-down-small, divided-down-wide}
 use Rattle.sets.specs.declared.Place.the-variants.{Standing, At}
 use Rattle.sets.specs.declared.Refusal.{Refusal}
@@ -30,7 +30,7 @@ use Rattle.sets.proofs.Stores.{length-numbers-of, numbers-of-append, nu
 use Rattle.sets.proofs.Ordered.{insert-ordered}
 use Rattle.sets.proofs.Canon.{insert-grows}
 use Rattle.sets.proofs.Joining.{insert-all}
-use Rattle.sets.proofs.Places.{insert-at, insert-standing, place-within}
+use Rattle.sets.proofs.Places.{insert-at, insert-standing, insert-last, place-within}
 use Rattle.sets.proofs.Moving.{written-between}
 
 -- ---- at most 128 rows, or 10
@@ -311,9 +311,43 @@ put-all-grows (r ∷ rs) x =
 pub joined-longer : (rs t : List Row) → length t ≤ set-rows → Grows (found t) (joined rs t)
 joined-longer rs t h = rw (← joined-put-all rs t h) (put-all-grows rs (found t))
 
--- the rows of a store, the next one being row i
+-- after rows were joined: what the answer says, that a further row may be put, and what has become of the store since the first step
+module _ (rs : List Row) (wide : All Wide rs) (s s′ : List ℤ) (c c′ : Joined) (ready : Ready s c) (left : Left (put-all rs (progress s c)) s s′ c′) where
+  all-proper : Proper (put-all rs (progress s c))
+  all-proper = put-all-proper rs (progress s c) wide (ready-proper s c ready)
+
+  pub put-all-progress : progress s′ c′ ≡ put-all rs (progress s c)
+  put-all-progress = left-progress (put-all rs (progress s c)) s s′ c′ all-proper left
+
+  pub put-all-ready : Ready s′ c′
+  put-all-ready = left-ready (put-all rs (progress s c)) s s′ c′ all-proper (ready .long) left
+
+  pub put-all-left : (s₀ : List ℤ) → set-numbers ≤ length s₀ → Left (progress s c) s₀ s c → Left (progress s′ c′) s₀ s′ c′
+  put-all-left s₀ l h =
+      rw put-all-progress
+      (left-twice (progress s c) (put-all rs (progress s c)) s₀ s s′ c c′ (ready-proper s c ready) all-proper (put-all-grows rs (progress s c)) l h left)
+
+-- ---- rows joined in two parts
+pub put-all-append : (l m : List Row) (x : Result (List Row)) → put-all (l ++ m) x ≡ put-all m (put-all l x)
+unfolding put-all
+put-all-append [] m x = refl
+put-all-append (r ∷ l) m x = put-all-append l m (next (divided-down r .fate) (divided-down r .row) x)
+
+-- ---- a set whose rows are divided down joins the empty one as it stands: each row is put behind the others
+joined-behind : (s l : List Row) → InOrder (s ++ l) → All (λ r. divided-down r ≡ kept r) l → joined-all l s ≡ found (s ++ l)
+unfolding joined-all and-then
+joined-behind s [] h a = ap {B = Result (List Row)} found (sym (append-nil s))
+joined-behind s (r ∷ l) h (cons e a) =
+    rw (e, insert-last s r l h)
+    (joined-behind (s ++ r ∷ []) l (rw (append-snoc s r l) h) a ∙ ap {B = Result (List Row)} found (append-snoc s r l))
+
+pub joined-itself : (l : List Row) → InOrder l → All (λ r. divided-down r ≡ kept r) l → length l ≤ set-rows → joined l [] ≡ found l
+unfolding joined and-then
+joined-itself l o a h = rw (joined-behind [] l o a) (within-few l h)
+
+-- ---- the rows of a store, the next one being row i
 module _ (from : List ℤ) (at m i : ℕ) where
-  rows-left : i < m → rows-at from (at + i * row-numbers) (m - i) ≡ row-at from (at + i * row-numbers) ∷ rows-at from (at + (i + 1) * row-numbers) (m - (i + 1))
+  pub rows-left : i < m → rows-at from (at + i * row-numbers) (m - i) ≡ row-at from (at + i * row-numbers) ∷ rows-at from (at + (i + 1) * row-numbers) (m - (i + 1))
   unfolding rows-at
   rows-left h =
       let e : m - i ≡ suc (m - (i + 1)) = omega arith in

@@ -12,7 +12,7 @@ use lib.Seq.{length-take-le, getD-take, getD-drop, getD-at, take-at, drop-at, ta
 use lib.IntN.{ℤ, pos}
 use Rattle.integers.specs.Lists.{All, nil, cons}
 use Rattle.rows.specs.declared.Row.{Row}
-use Rattle.rows.specs.Rows.{entry-count, empty-row, row-numbers, set-rows, set-numbers, Small, flag, is-one, numbers, row-at}
+use Rattle.rows.specs.Rows.{entry-count, empty-row, row-numbers, set-rows, set-numbers, Small, flag, is-one, numbers, row-at, with-row}
 use Rattle.rows.proofs.Dividing.{Wide}
 use Rattle.sets.specs.Sets.{InOrder, none}
 use Rattle.sets.specs.Stores.{numbers-of, rows-at, whole-numbers, zeroed, with-rows, set-in, Stands, HoldsSet, Touched}
@@ -226,6 +226,17 @@ rows-with-rows t s w = rows-of-numbers w (drop (length (numbers-of t)) s)
 pub with-rows-none : (s : List ℤ) → with-rows [] s ≡ s
 unfolding with-rows numbers-of
 with-rows-none s = refl
+
+-- one row more, written behind the others
+pub with-rows-more : (t : List Row) (r : Row) (s : List ℤ) → All Wide t → Wide r → with-row (with-rows t s) (length t * row-numbers) r ≡ with-rows (t ++ r ∷ []) s
+unfolding with-rows numbers-of
+with-rows-more t r s w h =
+    let k = numbers-of t in
+    let n : length k ≡ length t * row-numbers = length-numbers-of w in
+    let e : numbers-of (t ++ r ∷ []) ≡ k ++ numbers r = numbers-of-append t (r ∷ []) ∙ ap (λ (l : List ℤ). k ++ l) (append-nil (numbers r)) in
+    let m : length (k ++ numbers r) ≡ length k + row-numbers = length-append k (numbers r) ∙ ap (λ (j : ℕ). length k + j) (length-numbers r h) in
+    let d : drop (length k + row-numbers) (k ++ drop (length k) s) ≡ drop (length k + row-numbers) s = drop-with-rows t s (length k + row-numbers) (omega arith) in
+    rw (← n, take-at k (drop (length k) s) (length k) refl, d, e, m)
 
 -- what stands there already
 pub with-rows-itself : (s : List ℤ) (n : ℕ) → Stands s 0 n → with-rows (set-in s n) s ≡ s
