@@ -10,7 +10,7 @@ use Rattle.integers.specs.Lists.{All, nil, cons}
 use Rattle.integers.proofs.Lists.{all-head, all-tail}
 use Rattle.integers.proofs.Whole.{zed, ring, IsPos, is-pos, of-pos, pos-of, pos-*}
 use Rattle.rows.specs.Rows.{at, times}
-use Rattle.rows.proofs.Sums.{at-times, length-times}
+use Rattle.entries.proofs.Sums.{at-times, length-times}
 use Rattle.models.specs.Automaton.{Automaton}
 use Rattle.models.specs.Runs.{Fraction, whole, over, NotNegative, filled, at-zero, reference-setting}
 use Rattle.models.proofs.Shape.{Shaped}

@@ -16,7 +16,7 @@ use Rattle.integers.proofs.Whole.{zed, ring, one-*ℤ, of-pos, pos-of, pos-*, l
 use Rattle.integers.proofs.Order.{read, ring-by}
 use Rattle.rows.specs.declared.Row.{Row}
 use Rattle.rows.specs.Rows.{at, dot, plus, times, Holds, holds-at}
-use Rattle.rows.proofs.Sums.{at-plus, at-times, length-times, length-plus}
+use Rattle.entries.proofs.Sums.{at-plus, at-times, length-times, length-plus}
 use Rattle.rows.proofs.Sign.{under-scale, under-unscale, under-yes}
 use Rattle.rows.proofs.Meaning.{dot-nil, dot-comm, dot-plus, dot-times, dot-weigh, set-zero, single-above, single-below}
 use Rattle.removal.specs.Exact.{Point, Meets, SameBut}

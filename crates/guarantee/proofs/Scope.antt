@@ -11,7 +11,7 @@ use Rattle.integers.specs.Lists.{All, nil, cons, In}
 use Rattle.integers.proofs.Lists.{all-head, all-tail, all-map, all-mapped, all-in}
 use Rattle.rows.specs.declared.Row.{Row}
 use Rattle.rows.specs.Rows.{delay-entry, single}
-use Rattle.rows.proofs.Sums.{at-with-other}
+use Rattle.entries.proofs.Sums.{at-with-other}
 use Rattle.rows.proofs.Dividing.{Blind, single-blind}
 use Rattle.sets.specs.Outcomes.{found}
 use Rattle.sets.specs.Sets.{joined}

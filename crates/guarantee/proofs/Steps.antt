@@ -12,7 +12,7 @@ use Rattle.integers.proofs.Whole.{zed, ring, pos-of}
 use Rattle.integers.proofs.Order.{read, ring-by}
 use Rattle.rows.specs.declared.Row.{Row}
 use Rattle.rows.specs.Rows.{delay-entry, at, single, dot, Holds}
-use Rattle.rows.proofs.Sums.{at-with}
+use Rattle.entries.proofs.Sums.{at-with}
 use Rattle.rows.proofs.Sign.{under-scale}
 use Rattle.rows.proofs.Meaning.{dot-blind, rest-with, single-above}
 use Rattle.rows.proofs.Dividing.{Blind}

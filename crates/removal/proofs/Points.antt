@@ -13,7 +13,7 @@ use Rattle.integers.proofs.Lists.{all-head, all-append, all-in}
 use Rattle.integers.proofs.Whole.{ring, IsPos, of-pos, pos-of, pos-*, eq-unscale}
 use Rattle.rows.specs.declared.Row.{Row}
 use Rattle.rows.specs.Rows.{at, dot, times, Holds}
-use Rattle.rows.proofs.Sums.{at-times, length-times}
+use Rattle.entries.proofs.Sums.{at-times, length-times}
 use Rattle.rows.proofs.Sign.{under-scale, under-unscale}
 use Rattle.rows.proofs.Meaning.{dot-point, dot-weigh, dot-rest, rest, rest-set}
 use Rattle.removal.specs.Removal.{entry}

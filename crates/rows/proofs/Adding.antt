@@ -22,9 +22,9 @@ use Rattle.integers.proofs.Whole.{IsPos, is-pos, pos-*, *ℤ-+ℤ, *ℤ-assoc, 
 use Rattle.rows.specs.declared.Row.{Row}
 use Rattle.rows.specs.declared.Settled.{Settled}
 use Rattle.rows.specs.Rows.{at, under, Under, gcd-from, divisor, divided, all-zero, gone, kept, false-row, limited, constant, divided-down, plus, times, paired, added, is-not, has-one}
-use Rattle.rows.proofs.Sums.{at-times}
+use Rattle.entries.proofs.Sums.{at-times}
 use Rattle.rows.proofs.Sign.{under-scale, under-unscale, under-yes, under-no}
-use Rattle.rows.proofs.Divisor.{divisor-divides, divisor-pos, divisor-gcd}
+use Rattle.entries.proofs.Common.{divisor-divides, divisor-pos, divisor-gcd}
 
 -- ---- multiples
 times-plus : (k : ℤ) (l m : List ℤ) → times k (plus l m) ≡ plus (times k l) (times k m)

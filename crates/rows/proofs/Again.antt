@@ -15,7 +15,7 @@ use Rattle.integers.proofs.Bounds.{natAbs-quot}
 use Rattle.rows.specs.declared.Row.{Row}
 use Rattle.rows.specs.Rows.{with-entry, false-row, gcd-from, or-one, divisor, divided, kept, too-large, all-small, all-zero, limited, constant, divided-down}
 use Rattle.rows.proofs.Dividing.{IfKept, if-kept}
-use Rattle.rows.proofs.Divisor.{gcd-from-divides, gcd-from-most, is-zero, divisor-divides}
+use Rattle.entries.proofs.Common.{gcd-from-divides, gcd-from-most, is-zero, divisor-divides}
 
 -- ---- dividing by the divisor leaves 1
 quot-one : (z : ℤ) → quotZ z (pos 1) ≡ z

@@ -18,11 +18,11 @@ use Rattle.rows.specs.declared.Fate.{Fate}
 use Rattle.rows.specs.declared.Fate.the-variants.{Kept, Gone, TooLarge}
 use Rattle.rows.specs.declared.Settled.{Settled}
 use Rattle.rows.specs.Rows.{entry-count, at, with-entry, single, false-row, dot, times, under, Holds, Small, divisor, divided, kept, gone, too-large, all-small, all-zero, limited, constant, divided-down}
-use Rattle.rows.proofs.Sums.{at-with-other, length-with}
+use Rattle.entries.proofs.Sums.{at-with-other, length-with}
 use Rattle.rows.proofs.Sign.{under-scale, under-unscale, under-yes, under-no}
 use Rattle.rows.proofs.Meaning.{dot-times, dot-zero, single-holds}
-use Rattle.rows.proofs.Divisor.{divisor-pos, divisor-divides}
-use Rattle.rows.proofs.Fits.{small-of}
+use Rattle.entries.proofs.Common.{divisor-pos, divisor-divides}
+use Rattle.entries.proofs.Fits.{small-of}
 
 -- ---- dividing is exact
 times-quot : {g : ℕ} → IsPos (pos g) → (l : List ℤ) → All (λ z. g ∣ natAbs z) l → times (pos g) (map (λ z. quotZ z (pos g)) l) ≡ l

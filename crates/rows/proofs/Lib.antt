@@ -1,11 +1,9 @@
-pub mod Sums
 pub mod Sign
 pub mod Meaning
 pub mod Negating
 pub mod Pairing
 pub mod Ordering
-pub mod Divisor
-pub mod Fits
+pub mod Lowering
 pub mod Dividing
 pub mod Again
 pub mod Adding

@@ -16,7 +16,7 @@ use Rattle.integers.proofs.Tests.{and-left, and-right, zero-of}
 use Rattle.integers.proofs.Whole.{ring, zed, up-neg, dn-neg, neg-*ℤ, one-*ℤ}
 use Rattle.rows.specs.declared.Row.{Row}
 use Rattle.rows.specs.Rows.{at, dot, plus, times, with-entry, single, all-zero, Holds}
-use Rattle.rows.proofs.Sums.{at-with}
+use Rattle.entries.proofs.Sums.{at-with}
 use Rattle.rows.proofs.Sign.{under-dec}
 
 -- ---- it is linear, on both sides

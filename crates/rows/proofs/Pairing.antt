@@ -7,7 +7,7 @@ use lib.IntN.{ℤ, pos, negℤ, _+ℤ_, _*ℤ_, +ℤ-invl, *ℤ-comm}
 use Rattle.integers.proofs.Whole.{neg-*ℤ, IsPos}
 use Rattle.rows.specs.declared.Row.{Row}
 use Rattle.rows.specs.Rows.{at, dot, times, paired, Under, Holds}
-use Rattle.rows.proofs.Sums.{at-plus, at-times, length-plus, length-times}
+use Rattle.entries.proofs.Sums.{at-plus, at-times, length-plus, length-times}
 use Rattle.rows.proofs.Sign.{under-scale, under-or, under-or-left, under-or-right}
 use Rattle.rows.proofs.Meaning.{dot-plus, dot-times, dot-blind, rest, rest-plus, rest-times}
 

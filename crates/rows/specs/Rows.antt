@@ -2,15 +2,14 @@
 -- Definitions hold for any number of entries; the code's rows have 16.
 use mathlib.Core.Bool.{Bool, true, false, not, cond, _&&_, _||_}
 use mathlib.Core.List.{List, [], _∷_, _++_, map}
-use Prim.Native.Nat.{ℕ, zero, suc, _+_, _*_, _≤_}
-use lib.Dec.{leb, eqb}
+use Prim.Native.Nat.{ℕ, _+_, _*_}
+use lib.Dec.{eqb}
 use lib.ListN.{getD, take, drop, replicate}
-use lib.IntN.{ℤ, pos, negsuc, negℤ, natAbs, _+ℤ_, _-ℤ_, _*ℤ_}
+use lib.IntN.{ℤ, pos, negsuc, negℤ, _+ℤ_, _*ℤ_}
 use lib.Signed.{quotZ, ltZ, leZ, _≤ℤ_, _<ℤ_}
-use Rattle.integers.specs.Gcd.{gcd}
-use Rattle.integers.specs.Limits.{entry-limit}
 use Rattle.integers.specs.Lists.{every}
-use Rattle.integers.specs.Signs.{isZero}
+pub use Rattle.entries.specs.Entries.{entry-count, at, Within, Small, gcd-from, or-one, is-not}
+unfoldable pub use Rattle.entries.specs.Entries.{with-entry, divisor, all-small, all-zero, plus, times}
 use Rattle.rows.specs.declared.Row.{Row}
 use Rattle.rows.specs.declared.Fate.{Fate}
 use Rattle.rows.specs.declared.Fate.the-variants.{Kept, Gone, TooLarge}
@@ -21,9 +20,6 @@ use Rattle.rows.specs.declared.Clock.{Clock}
 use Rattle.rows.specs.declared.Parameter.{Parameter}
 
 -- ---- sizes: 16 entries; 17 numbers a row; 128 rows and so 2,176 numbers a set
-abbrev pub entry-count : ℕ
-entry-count = 16
-
 abbrev pub row-numbers : ℕ
 row-numbers = entry-count + 1
 
@@ -42,17 +38,6 @@ clock-entry c = 8 + c .0
 
 abbrev pub delay-entry : ℕ
 delay-entry = 15
-
--- an entry; past the end, 0
-abbrev pub at : List ℤ → ℕ → ℤ
-at l i = getD l i (pos 0)
-
--- the entries with z at v; entries between the end and v are 0
-unfoldable pub with-entry : ℕ → ℤ → List ℤ → List ℤ
-with-entry zero z [] = z ∷ []
-with-entry zero z (a ∷ l) = z ∷ l
-with-entry (suc v) z [] = pos 0 ∷ with-entry v z []
-with-entry (suc v) z (a ∷ l) = a ∷ with-entry v z l
 
 abbrev pub empty-row : Row
 empty-row = record { entries = replicate entry-count (pos 0); strict = false }
@@ -88,31 +73,11 @@ Holds p r = Under (r .strict) (dot (r .entries) p)
 abbrev pub holds-at : List ℤ → Row → Bool
 holds-at p r = under (r .strict) (dot (r .entries) p)
 
--- each entry is within ±B
-abbrev pub Within : ℕ → List ℤ → Type 0
-Within B l = (i : ℕ) → natAbs (at l i) ≤ B
-
-abbrev pub Small : List ℤ → Type 0
-Small = Within entry-limit
-
 -- ---- negation turns every sign and exchanges ≤ and <
 abbrev pub negated : Row → Row
 negated r = record { entries = map negℤ (r .entries); strict = not (r .strict) }
 
 -- ---- dividing down
--- the greatest common divisor of g and all of a list
-abbrev pub gcd-from : ℕ → List ℤ → ℕ
-gcd-from g [] = g
-gcd-from g (z ∷ l) = gcd-from (gcd g (natAbs z)) l
-
--- 1 where all entries are 0
-abbrev pub or-one : ℕ → ℕ
-or-one zero = 1
-or-one (suc n) = suc n
-
-unfoldable pub divisor : List ℤ → ℕ
-divisor l = or-one (gcd-from 0 l)
-
 unfoldable pub divided : Row → Row
 divided r = record { entries = map (λ z. quotZ z (pos (divisor (r .entries)))) (r .entries); strict = r .strict }
 
@@ -126,12 +91,6 @@ gone = record { row = empty-row; fate = Gone }
 abbrev pub too-large : Settled
 too-large = record { row = empty-row; fate = TooLarge }
 
-unfoldable pub all-small : List ℤ → Bool
-all-small l = every (λ z. leb (natAbs z) entry-limit) l
-
-unfoldable pub all-zero : List ℤ → Bool
-all-zero l = every isZero l
-
 -- no entry beyond the limit, or 9
 unfoldable pub limited : Row → Settled
 limited r = cond (all-small (r .entries)) (kept r) too-large
@@ -144,14 +103,6 @@ unfoldable pub divided-down : Row → Settled
 divided-down r = cond (all-zero (drop 1 (r .entries))) (constant r) (limited (divided r))
 
 -- ---- pairing: b times the first plus a times the second, strict if either was; a is entry v of the first, −b that of the second
-unfoldable pub plus : List ℤ → List ℤ → List ℤ
-plus [] m = m
-plus (a ∷ l) [] = a ∷ l
-plus (a ∷ l) (b ∷ m) = (a +ℤ b) ∷ plus l m
-
-unfoldable pub times : ℤ → List ℤ → List ℤ
-times k l = map (λ z. k *ℤ z) l
-
 abbrev pub paired : ℕ → Row → Row → Row
 paired v r s = record {
   entries = plus (times (negℤ (at (s .entries) v)) (r .entries)) (times (at (r .entries) v) (s .entries));
@@ -161,9 +112,6 @@ paired v r s = record {
 -- the plain sum of two rows: what a pair is a multiple of where its two multipliers are equal
 abbrev pub added : Row → Row → Row
 added r s = record { entries = plus (r .entries) (s .entries); strict = r .strict || s .strict }
-
-abbrev pub is-not : ℤ → ℤ → Bool
-is-not x z = not (isZero (z -ℤ x))
 
 -- a variable has the entry 1 or −1: then the row is divided down already
 unfoldable pub has-one : Row → Bool

@@ -8,8 +8,6 @@ ghost use lib.IntN.{ℤ, pos};
 ghost use Rattle.integers.specs.Limits.{given-limit};
 ghost use Rattle.rows.specs.Rows.{entry-count, row-numbers, set-rows, set-numbers, parameter-entry, clock-entry, delay-entry, empty-row, single, false-row, dot, under, holds-at, Within, Small, negated, constant, divided-down, limited, paired, added, has-one, flag-order, row-order, flag, row-at, with-row};
 
-mod entries;
-
 pub struct Row {
     pub entries: [i32; 16],
     pub strict: bool,
@@ -88,13 +86,13 @@ impl Parameter {
 }
 
 impl Row {
-    pub const ENTRIES: usize = 16;
+    pub const ENTRIES: usize = entries::COUNT;
 
     pub const NUMBERS: usize = Row::ENTRIES + 1;
 
     pub const DELAY: usize = 15;
 
-    pub const LIMIT: i32 = 1_000_000_000;
+    pub const LIMIT: i32 = entries::LIMIT;
 
     pub fn empty() -> Row
         ensures { λ r. ⌜ r ≡ empty-row ⌝ }

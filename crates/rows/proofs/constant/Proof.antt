@@ -6,7 +6,7 @@ use lib.ListN.{getD}
 use mir.Syntax.{w64}
 use Rattle.integers.proofs.Bounds.{back}
 use Rattle.rows.specs.Rows.{under}
-use Rattle.rows.proofs.Fits.{constant-gone, constant-kept}
+use Rattle.rows.proofs.Lowering.{constant-gone, constant-kept}
 use Rattle.rows.proofs.constant.Statement.{statement}
 use Rattle.rows.proofs.constant.Tie as tie
 

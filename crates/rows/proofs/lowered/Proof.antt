@@ -3,7 +3,8 @@ use mathlib.Core.Path.{_≡_, sym, _∙_}
 use Prim.Native.Nat.{_^_}
 use native.Mathlib.Omega.{arith}
 use borrow.Author.Needs.{needs}
-use Rattle.rows.proofs.Fits.{divisor-above, divisor-le, small-of, down-constant, down-kept, down-large}
+use Rattle.entries.proofs.Fits.{divisor-above, divisor-le, small-of}
+use Rattle.rows.proofs.Lowering.{down-constant, down-kept, down-large}
 use Rattle.rows.proofs.lowered.Statement.{statement}
 use Rattle.rows.proofs.lowered.Tie as tie
 

@@ -8,7 +8,7 @@ use mir.Syntax.{w32, w64}
 use mir.Val.{toZ, ofZ}
 use Rattle.integers.proofs.Bounds.{back, natAbs-neg}
 use Rattle.rows.specs.Rows.{at, paired}
-use Rattle.rows.proofs.Fits.{within-paired}
+use Rattle.rows.proofs.Lowering.{within-paired}
 use Rattle.rows.proofs.Row.paired.Statement.{statement}
 use Rattle.rows.proofs.Row.paired.Tie as tie
 

@@ -3,7 +3,7 @@ use borrow.Author.Needs.{needs}
 use lib.ListN.{replicate}
 use lib.IntN.{pos}
 use mir.Facts.{toZ-ofZ}
-use Rattle.rows.proofs.Sums.{with-set}
+use Rattle.entries.proofs.Sums.{with-set}
 use Rattle.rows.proofs.Row.single.Statement.{statement}
 use Rattle.rows.proofs.Row.single.Tie as tie
 
