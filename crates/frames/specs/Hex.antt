@@ -13,11 +13,20 @@ use Rattle.sets.specs.Outcomes.{Result, found, refused, and-then}
 unfoldable pub digit : ℕ → Result ℕ
 digit c = cond (leb 48 c && leb c 57) (found (c - 48)) (cond (leb 65 c && leb c 70) (found (c - 55)) (refused NoFrame))
 
+-- what was found, or another number
+abbrev pub number-or : ℕ → Result ℕ → ℕ
+number-or n (found v) = v
+number-or n (refused r) = n
+
+-- two digits of a byte
+unfoldable pub pair : ℕ → ℕ → Result ℕ
+pair c d = and-then (digit c) (λ high. and-then (digit d) (λ low. found (high * 16 + low)))
+
 -- two digits a byte; an odd digit is left over from no byte
 unfoldable pub bytes-of : List ℕ → Result (List ℕ)
 bytes-of [] = found []
 bytes-of (c ∷ []) = refused NoFrame
-bytes-of (c ∷ d ∷ cs) = and-then (digit c) (λ high. and-then (digit d) (λ low. and-then (bytes-of cs) (λ bs. found ((high * 16 + low) ∷ bs))))
+bytes-of (c ∷ d ∷ cs) = and-then (pair c d) (λ b. and-then (bytes-of cs) (λ bs. found (b ∷ bs)))
 
 -- a byte of a frame; past its end, 0
 abbrev pub byte : List ℕ → ℕ → ℕ
@@ -47,6 +56,12 @@ new-line x = record { ended = [] ∷ x .ended; left = x .left }
 unfoldable pub lines : List ℕ → Lines
 lines [] = record { ended = []; left = [] }
 lines (c ∷ cs) = let rest = lines cs in cond (eqb c 10) (new-line rest) (with-first c (rest .ended) (rest .left))
+
+-- the bytes of the line at the front, up to its LF: what a line has been read as before it is known where it ends
+unfoldable pub first-bytes : List ℕ → Result (List ℕ)
+first-bytes [] = refused NoFrame
+first-bytes (c ∷ []) = cond (eqb c 10) (found []) (refused NoFrame)
+first-bytes (c ∷ d ∷ cs) = cond (eqb c 10) (found []) (and-then (pair c d) (λ b. and-then (first-bytes cs) (λ bs. found (b ∷ bs))))
 
 -- ---- writing
 -- n below 16 as a digit, a byte as two, bytes as a line

@@ -1,3 +1,4 @@
 pub mod Hex
 pub mod Reading
 pub mod Writing
+pub mod Steps

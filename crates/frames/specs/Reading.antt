@@ -4,19 +4,24 @@ use mathlib.Core.Bool.{Bool, true, false, not, cond, _&&_, _||_}
 use mathlib.Core.List.{List, [], _∷_, _++_, map}
 use Prim.Native.Nat.{ℕ, zero, suc, _+_, _-_, _*_}
 use lib.Dec.{leb, ltb, eqb}
-use lib.ListN.{length, take, drop, getD, replicate}
+use lib.ListN.{length, drop, getD, replicate}
 use lib.IntN.{ℤ, pos, natAbs}
 use Rattle.integers.specs.Limits.{given-limit}
 use Rattle.integers.specs.Lists.{every, from}
 use Rattle.integers.specs.Signs.{isZero}
 use Rattle.rows.specs.Rows.{entry-count, set-rows, with-entry}
+use Rattle.sets.specs.declared.Outcome.{Outcome}
+use Rattle.sets.specs.declared.Outcome.the-variants.{Found, Refused}
 use Rattle.sets.specs.declared.Refusal.the-variants.{NoFrame, Misplaced, HeaderRange, ReferenceRange, Undeclared, WrongTerms}
 use Rattle.sets.specs.Outcomes.{Result, found, refused, and-then}
 use Rattle.models.specs.declared.Header.{Header}
 use Rattle.models.specs.declared.Transition.{Transition}
 use Rattle.models.specs.declared.ModelRow.{ModelRow}
+use Rattle.models.specs.declared.Reference.{Reference}
 use Rattle.models.specs.declared.Model.{Model}
+use Rattle.models.specs.Automaton.{padded}
 use Rattle.models.specs.Acceptance.{between, header-fits, reference-fits, transition-declared, owner-declared, entry-declared}
+use Rattle.frames.specs.declared.Progress.{Progress}
 use Rattle.frames.specs.Hex.{bytes-of, byte, word, signed, Lines, lines}
 
 -- ---- what has been read: the header and the reference once they were met, the transitions and the rows in order
@@ -36,6 +41,21 @@ nothing = record {
   reference = [];
   transitions = [];
   rows = [];
+}
+
+-- the denominator, and eight numerators
+abbrev pub reference-table : List ℤ → Reference
+reference-table l = record { denominator = getD l 0 (pos 0); numerators = padded 8 (pos 0) (drop 1 l) }
+
+-- the same counted, as the code keeps it beside the tables
+abbrev pub progress-of : Seen → Progress
+progress-of s = record {
+  header = s .header;
+  reference = reference-table (s .reference);
+  transitions = length (s .transitions);
+  rows = length (s .rows);
+  headed = s .has-header;
+  referenced = s .has-reference;
 }
 
 -- ---- the frames, their kind taken off
@@ -71,16 +91,29 @@ row-of b = record { kind = byte b 0; owner = byte b 1; strict = byte b 2; entrie
 abbrev pub is-known : ℕ → Bool
 is-known kind = leb 1 kind && leb kind 4
 
-unfoldable pub due-length : Header → ℕ → List ℕ → ℕ
-due-length h kind b = cond (eqb kind 2) (4 + h .parameters * 4) (cond (eqb kind 3) (4 + term-count b * 5) 4)
+-- how many bytes follow the kind; `terms` is the number of terms that a row frame counts
+unfoldable pub due-length : Header → ℕ → ℕ → ℕ
+due-length h kind terms = cond (eqb kind 2) (4 + h .parameters * 4) (cond (eqb kind 3) (4 + terms * 5) 4)
 
 -- ---- 2: the kinds in their order 01, 02, 04, 03
-unfoldable pub is-due : Seen → ℕ → Bool
-is-due s kind =
-    cond (eqb kind 1) (not (s .has-header))
-    (cond (eqb kind 2) (not (s .has-reference))
-    (cond (eqb kind 4) (s .has-reference && ltb (length (s .transitions)) (s .header .transitions))
-    (s .has-reference && (eqb (length (s .transitions)) (s .header .transitions) && ltb (length (s .rows)) set-rows))))
+unfoldable pub is-due : Progress → ℕ → Bool
+is-due p kind =
+    cond (eqb kind 1) (not (p .headed))
+    (cond (eqb kind 2) (not (p .referenced))
+    (cond (eqb kind 4) (p .referenced && ltb (p .transitions) (p .header .transitions))
+    (p .referenced && (eqb (p .transitions) (p .header .transitions) && ltb (p .rows) set-rows))))
+
+-- ---- the place of a frame with so many bytes behind its kind: 1, but that before the header a known kind other than 01 is 2 at any
+-- length; then 2
+unfoldable pub placed : Progress → ℕ → ℕ → ℕ → Outcome
+placed p kind count terms =
+    cond (is-known kind)
+    (cond (p .headed || eqb kind 1)
+    (cond (eqb count (due-length (p .header) kind terms))
+    (cond (is-due p kind) Found (Refused Misplaced))
+    (Refused NoFrame))
+    (Refused Misplaced))
+    (Refused NoFrame)
 
 -- ---- 5 and 6 of a row frame: all terms counted are looked at for 5 first
 unfoldable pub row-declared : Header → List ℕ → Bool
@@ -131,17 +164,14 @@ content s kind b =
     (cond (eqb kind 2) (reference-frame s b)
     (cond (eqb kind 4) (transition-frame s b) (row-frame s b)))
 
--- ---- a line: 1, but that before the header a known kind other than 01 is 2 at any length; then 2; then the rest
+-- ---- a line: its place, then what it holds
+abbrev pub passed : {A : Type 0} → Outcome → Result A → Result A
+passed Found x = x
+passed (Refused q) x = refused q
+
 unfoldable pub frame : Seen → List ℕ → Result Seen
 frame s [] = refused NoFrame
-frame s (kind ∷ b) =
-    cond (is-known kind)
-    (cond (s .has-header || eqb kind 1)
-    (cond (eqb (length b) (due-length (s .header) kind b))
-    (cond (is-due s kind) (content s kind b) (refused Misplaced))
-    (refused NoFrame))
-    (refused Misplaced))
-    (refused NoFrame)
+frame s (kind ∷ b) = passed (placed (progress-of s) kind (length b) (term-count b)) (content s kind b)
 
 unfoldable pub line : Seen → List ℕ → Result Seen
 line s cs = and-then (bytes-of cs) (frame s)
@@ -157,16 +187,12 @@ zero-transition = record { source = 0; action = 0; target = 0; resets = 0 }
 abbrev pub zero-row : ModelRow
 zero-row = record { kind = 0; owner = 0; strict = 0; entries = replicate entry-count (pos 0) }
 
--- n elements: those of the list, then d
-abbrev pub filled-up : {A : Type 0} → ℕ → A → List A → List A
-filled-up n d l = take n (l ++ replicate n d)
-
 unfoldable pub tables : Seen → Model
 tables s = record {
   header = s .header;
-  reference = record { denominator = getD (s .reference) 0 (pos 0); numerators = filled-up 8 (pos 0) (drop 1 (s .reference)) };
-  transitions = filled-up 64 zero-transition (s .transitions);
-  rows = filled-up set-rows zero-row (s .rows);
+  reference = reference-table (s .reference);
+  transitions = padded 64 zero-transition (s .transitions);
+  rows = padded set-rows zero-row (s .rows);
   count = length (s .rows);
 }
 

@@ -3,12 +3,12 @@ use mathlib.Core.Path.{_≡_, refl, ap, _∙_}
 use mathlib.Core.Bool.{Bool, true, false, not, _&&_, _||_}
 use mathlib.Core.List.{List, [], _∷_, map}
 use mathlib.Core.Logic.{⊎-elim}
-use Prim.Native.Nat.{ℕ, zero, suc, _+_, _<_, _≤_}
+use Prim.Native.Nat.{ℕ, zero, suc, _+_, _<_, _≤_, zero-le}
 use native.Mathlib.Omega.{arith}
 use borrow.Author.Tests.{leb-true, eqb-true}
 use lib.Dec.{leb, eqb}
 use lib.ListN.{length-map}
-use lib.IntN.{ℤ, pos}
+use lib.IntN.{ℤ, pos, negsuc, natAbs}
 use lib.Signed.{_≤ℤ_, _<ℤ_, leZ, leZ-yes}
 use Rattle.integers.specs.Limits.{given-limit}
 use Rattle.integers.specs.Lists.{All, nil, cons, every, filter, from}
@@ -16,7 +16,7 @@ use Rattle.integers.specs.Signs.{isZero}
 use Rattle.integers.proofs.Lists.{all-map, all-filter, all-mapped, every-all}
 use Rattle.integers.proofs.Tests.{T-of, true-of, not-both, and-left, and-right, or-true, zero-of}
 use Rattle.integers.proofs.Whole.{zed}
-use Rattle.rows.specs.Rows.{at, holds-at, set-rows}
+use Rattle.rows.specs.Rows.{at, holds-at, set-rows, Within, Small}
 use Rattle.sets.specs.declared.Refusal.{Refusal}
 use Rattle.sets.specs.declared.Refusal.the-variants.{Misplaced, HeaderRange, ReferenceRange, Undeclared, WrongTerms, InitialBroken, InvariantBroken}
 use Rattle.sets.specs.declared.Outcome.{Outcome}
@@ -43,7 +43,7 @@ past false r after e = not-both (ap is-found e)
 abbrev pub RowPassed : Header → ModelRow → Type 0
 RowPassed h r = (row-declared h r ≡ true) × (terms-fit (r .entries) ≡ true)
 
-past-rows : (h : Header) (rs : List ModelRow) (after : Outcome) → rows-accepted h rs after ≡ Found → All (RowPassed h) rs × (after ≡ Found)
+pub past-rows : (h : Header) (rs : List ModelRow) (after : Outcome) → rows-accepted h rs after ≡ Found → All (RowPassed h) rs × (after ≡ Found)
 unfolding rows-accepted
 past-rows h [] after e = (nil, e)
 past-rows h (r ∷ rs) after e =
@@ -88,17 +88,49 @@ passed m e =
     }
 
 -- ---- the header
-clocks-within : (h : Header) → header-fits h ≡ true → h .clocks ≤ 6
+pub clocks-within : (h : Header) → header-fits h ≡ true → h .clocks ≤ 6
 unfolding header-fits
 clocks-within h e =
     let a = and-left (between 1 (h .clocks) 6) _ e in
     leb-true (h .clocks) 6 (and-right (leb 1 (h .clocks)) (leb (h .clocks) 6) a)
 
-parameters-within : (h : Header) → header-fits h ≡ true → h .parameters ≤ 8
+pub parameters-within : (h : Header) → header-fits h ≡ true → h .parameters ≤ 8
 unfolding header-fits
 parameters-within h e =
     let a = and-left (between 1 (h .parameters) 8) _ (and-right (between 1 (h .clocks) 6) _ e) in
     leb-true (h .parameters) 8 (and-right (leb 1 (h .parameters)) (leb (h .parameters) 8) a)
+
+pub transitions-within : (h : Header) → header-fits h ≡ true → h .transitions ≤ 64
+unfolding header-fits
+transitions-within h e =
+    let a = and-right (between 1 (h .locations) 32) _ (and-right (between 1 (h .parameters) 8) _ (and-right (between 1 (h .clocks) 6) _ e)) in
+    leb-true (h .transitions) 64 (and-right (leb 0 (h .transitions)) (leb (h .transitions) 64) a)
+
+-- ---- the numbers of an accepted model are given ones
+within-of : (B : ℕ) (l : List ℤ) → every (λ z. leb (natAbs z) B) l ≡ true → Within B l
+unfolding every
+within-of B [] e i = zero-le
+within-of B (z ∷ l) e zero = leb-true (natAbs z) B (and-left (leb (natAbs z) B) _ e)
+within-of B (z ∷ l) e (suc i) = within-of B l (and-right (leb (natAbs z) B) _ e) i
+
+pub terms-small : (l : List ℤ) → terms-fit l ≡ true → Small l
+unfolding terms-fit
+terms-small l e i = omega (arith, within-of given-limit l (and-right (not (every isZero l)) _ e) i)
+
+whole-within : (low high : ℕ) (z : ℤ) → between-whole low z high ≡ true → leb (natAbs z) high ≡ true
+whole-within low high (pos n) e = and-right (leb low n) (leb n high) e
+whole-within low high (negsuc n) e = not-both e
+
+all-within : (low high : ℕ) (l : List ℤ) → every (λ z. between-whole low z high) l ≡ true → Within high l
+unfolding every
+all-within low high [] e i = zero-le
+all-within low high (z ∷ l) e zero = leb-true (natAbs z) high (whole-within low high z (and-left (between-whole low z high) _ e))
+all-within low high (z ∷ l) e (suc i) = all-within low high l (and-right (between-whole low z high) _ e) i
+
+pub reference-within : (d : ℤ) (ns : List ℤ) → reference-fits (d ∷ ns) ≡ true → Within given-limit (d ∷ ns)
+unfolding reference-fits
+reference-within d ns e zero = leb-true (natAbs d) given-limit (whole-within 1 given-limit d (and-left (between-whole 1 d given-limit) _ e))
+reference-within d ns e (suc i) = all-within 0 given-limit ns (and-right (between-whole 1 d given-limit) _ e) i
 
 -- ---- the reference
 from-low : (low : ℕ) (z : ℤ) (high : ℕ) → between-whole low z high ≡ true → pos low ≤ℤ z
@@ -123,7 +155,7 @@ initial-entry h p i e = ⊎-elim named not-both (or-true (leb i (h .parameters))
     named : leb i (h .parameters) ≡ true → i ≤ 8
     named a = omega (arith, leb-true i (h .parameters) a)
 
-any-entry : (h : Header) → h .parameters ≤ 8 → (kind i : ℕ) → entry-declared h kind i ≡ true → i ≤ 8 + h .clocks
+pub any-entry : (h : Header) → h .parameters ≤ 8 → (kind i : ℕ) → entry-declared h kind i ≡ true → i ≤ 8 + h .clocks
 unfolding entry-declared
 any-entry h p kind i e = ⊎-elim parameter clock (or-true (leb i (h .parameters)) (not (eqb kind 0) && between 9 i (8 + h .clocks)) e)
   where

@@ -1,13 +1,19 @@
--- Entry numbers counted from a first one, and the entries of the clocks that a transition resets. Assumes nothing.
-use mathlib.Core.Path.{_≡_, refl, ap}
-use mathlib.Core.List.{_∷_}
-use Prim.Native.Nat.{ℕ, zero, suc, _+_, _-_, _<_, _≤_}
+-- Entry numbers counted from a first one, the entries of the clocks that a transition resets, and the reference padded to a setting
+-- of eight parameters. Assumes nothing.
+use mathlib.Core.Path.{_≡_, refl, sym, ap, ap₂, _∙_}
+use mathlib.Core.Bool.{Bool, _&&_}
+use mathlib.Core.List.{List, [], _∷_, map}
+use Prim.Native.Nat.{ℕ, zero, suc, _+_, _-_, _<_, _≤_, zero-le}
 use native.Mathlib.Omega.{arith}
-use lib.ListN.{length}
+use lib.ListN.{length, length-map, List·getD-eq-default}
+use lib.IntN.{ℤ, pos, natAbs, _+ℤ_, _*ℤ_, +ℤ-idr, *ℤ-zero}
 use native.Mathlib.Decide.{ℕ-discrete}
-use Rattle.integers.specs.Lists.{All, nil, cons, In, here, there, from}
+use Rattle.integers.specs.Lists.{All, nil, cons, In, here, there, every, from}
 use Rattle.integers.proofs.Lists.{all-map, all-filter}
-use Rattle.models.specs.Automaton.{bit, reset-entries}
+use Rattle.integers.proofs.Loops.{front, front-all}
+use Rattle.rows.specs.declared.Row.{Row}
+use Rattle.rows.specs.Rows.{at, dot, under, holds-at, Within}
+use Rattle.models.specs.Automaton.{bit, reset-entries, padded}
 
 pub length-from : (a n : ℕ) → length (from a n) ≡ n
 length-from a zero = refl
@@ -37,3 +43,74 @@ resets-within clocks resets = all-filter (λ e. bit resets (e - 9)) (from 9 cloc
   where
     within : (c : ℕ) → 9 ≤ c → c < 9 + clocks → (8 < c) × (c ≤ 8 + clocks)
     within c h k = (omega arith, omega arith)
+
+-- ---- a table of numbers, counted
+pub at-counted : (f : ℕ → ℤ) (a n i : ℕ) → i < n → at (map f (from a n)) i ≡ f (a + i)
+at-counted f a zero i h = absurd (omega arith)
+at-counted f a (suc n) zero h = ap f (omega arith)
+at-counted f a (suc n) (suc i) h = at-counted f (suc a) n i (omega arith) ∙ ap f (omega arith)
+
+-- those of another list
+pub at-declared : (ns : List ℤ) (n i : ℕ) → i < n → at (map (λ j. at ns j) (from 0 n)) i ≡ at ns i
+at-declared ns n i h = at-counted (λ j. at ns j) 0 n i h ∙ ap (at ns) (omega arith)
+
+pub length-counted : (f : ℕ → ℤ) (a n : ℕ) → length (map f (from a n)) ≡ n
+length-counted f a n = length-map (from a n) f ∙ length-from a n
+
+-- ---- numbers padded with zeros
+pub length-padded : (n : ℕ) (l : List ℤ) → length (padded n (pos 0) l) ≡ n
+unfolding padded
+length-padded zero l = refl
+length-padded (suc n) [] = ap suc (length-padded n [])
+length-padded (suc n) (x ∷ l) = ap suc (length-padded n l)
+
+pub at-padded : (n : ℕ) (l : List ℤ) (i : ℕ) → i < n → at (padded n (pos 0) l) i ≡ at l i
+unfolding padded
+at-padded zero l i h = absurd (omega arith)
+at-padded (suc n) [] zero h = refl
+at-padded (suc n) [] (suc i) h = at-padded n [] i (omega arith)
+at-padded (suc n) (x ∷ l) zero h = refl
+at-padded (suc n) (x ∷ l) (suc i) h = at-padded n l i (omega arith)
+
+pub within-padded : (B n : ℕ) (l : List ℤ) → Within B l → Within B (padded n (pos 0) l)
+unfolding padded
+within-padded B zero l w i = zero-le
+within-padded B (suc n) [] w zero = zero-le
+within-padded B (suc n) [] w (suc i) = within-padded B n [] w i
+within-padded B (suc n) (x ∷ l) w zero = w 0
+within-padded B (suc n) (x ∷ l) w (suc i) = within-padded B n l (λ j. w (suc j)) i
+
+-- a loop that copies what there is, and zeros past it
+pub front-padded : (n : ℕ) (l o : List ℤ) → length o ≡ n → front (λ k. at l k) n o ≡ padded n (pos 0) l
+front-padded n l o h = front-all (pos 0) (λ k. at l k) n o (padded n (pos 0) l) h (length-padded n l) (λ i k. sym (at-padded n l i k))
+
+-- no row sees the zeros
+dot-zeros : (n : ℕ) (l : List ℤ) → dot l (padded n (pos 0) []) ≡ dot l []
+unfolding dot padded
+dot-zeros zero l = refl
+dot-zeros (suc n) [] = refl
+dot-zeros (suc n) (a ∷ l) = rw (*ℤ-zero a, dot-zeros n l) (none l)
+  where
+    none : (l : List ℤ) → pos 0 +ℤ dot l [] ≡ pos 0
+    none [] = refl
+    none (a ∷ l) = refl
+
+pub dot-padded : (n : ℕ) (l p : List ℤ) → length p ≤ n → dot l (padded n (pos 0) p) ≡ dot l p
+unfolding dot padded
+dot-padded n l [] h = dot-zeros n l
+dot-padded zero l (x ∷ p) h = absurd (omega arith)
+dot-padded (suc n) [] (x ∷ p) h = refl
+dot-padded (suc n) (a ∷ l) (x ∷ p) h = ap (λ (t : ℤ). a *ℤ x +ℤ t) (dot-padded n l p (omega arith))
+
+-- ---- a reference: number i of it is numerator i − 1, and past the declared ones 0
+pub numerator-at : (d : ℤ) (ns : List ℤ) (n i : ℕ) → 0 < i → i ≤ n → at (d ∷ map (λ j. at ns j) (from 0 n)) i ≡ at ns (i - 1)
+numerator-at d ns n zero h k = absurd (omega arith)
+numerator-at d ns n (suc i) h k = at-declared ns n i k ∙ ap (at ns) (omega arith)
+
+pub reference-past : (d : ℤ) (ns : List ℤ) (n i : ℕ) → n < i → at (d ∷ map (λ j. at ns j) (from 0 n)) i ≡ pos 0
+reference-past d ns n i h = List·getD-eq-default (d ∷ map (λ j. at ns j) (from 0 n)) (pos 0) {n = i} (omega (arith, length-counted (λ j. at ns j) 0 n))
+
+pub padded-meets : (n : ℕ) (p : List ℤ) (rows : List Row) → length p ≤ n → every (holds-at (padded n (pos 0) p)) rows ≡ every (holds-at p) rows
+unfolding every
+padded-meets n p [] h = refl
+padded-meets n p (r ∷ rows) h = ap₂ {C = Bool} (λ (a b : Bool). a && b) (ap (under (r .strict)) (dot-padded n (r .entries) p h)) (padded-meets n p rows h)

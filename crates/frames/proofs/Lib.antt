@@ -1,0 +1,9 @@
+pub mod Pairs
+pub mod Decoding
+pub mod Counting
+pub mod Taking
+pub mod Placing
+pub mod Splitting
+pub mod Reaching
+pub mod Overwriting
+pub mod Lining

@@ -1,0 +1,19 @@
+-- `models::put_if` meets its contract. Assumes nothing.
+use mathlib.Core.Path.{_≡_, refl, sym, ap, _∙_}
+use Prim.Native.Nat.{ℕ, _+_, _-_, _≤_, _<_}
+use native.Mathlib.Omega.{arith}
+use borrow.Author.Needs.{needs}
+use Rattle.models.proofs.put_if.Statement.{statement}
+use Rattle.models.proofs.put_if.Tie as tie
+
+returns : tie.Need-returns
+returns c = rw (c .before .before .before .if1 .taken) (refl, c .before .write .ensures)
+
+pub put-if-spec : {M : Type 1} → statement M
+put-if-spec =
+    tie.close (tie.spec
+    (λ c. search needs)
+    (λ c κs. search needs)
+    (λ c. search needs)
+    (λ c. search needs) returns
+    (λ c. search needs))
