@@ -1,5 +1,5 @@
 -- Laws of `All`: what `filter`, `map`, `++` and all pairs of two lists do to a property of every element; and of `filter`. Assumes nothing.
-use mathlib.Core.Bool.{Bool, true, false, cond, _&&_}
+use mathlib.Core.Bool.{Bool, true, false, cond, _&&_, and-true, and-assoc}
 use mathlib.Core.Path.{_≡_, refl, sym, ap, _∙_, subst}
 use mathlib.Core.Logic.{_↔_}
 use mathlib.Core.List.{List, [], _∷_, _++_, map}
@@ -77,6 +77,12 @@ module _ {A : Type 0} where
   pub all-in : {P : A → Type 0} {x : A} {l : List A} → All P l → In x l → P x
   all-in {P} (cons h t) (here e) = subst P (sym e) h
   all-in (cons h t) (there i) = all-in t i
+
+  -- one element more behind the others
+  pub every-last : (f : A → Bool) (l : List A) (x : A) → every f (l ++ x ∷ []) ≡ (every f l && f x)
+  unfolding every
+  every-last f [] x = and-true (f x)
+  every-last f (y ∷ l) x = ap (λ (b : Bool). f y && b) (every-last f l x) ∙ sym (and-assoc (f y) (every f l) (f x))
 
   -- two tests in one
   pub every-both : (f g : A → Bool) (l : List A) → every (λ x. f x && g x) l ≡ (every f l && every g l)

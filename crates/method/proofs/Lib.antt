@@ -4,3 +4,12 @@ pub mod Tests
 pub mod Steps
 pub mod Loop
 pub mod Entry
+pub mod Clocks
+pub mod Sides
+pub mod Zeros
+pub mod Shifts
+pub mod Passing
+pub mod Sums
+pub mod InPlace
+pub mod Around
+pub mod Broken

@@ -1,2 +1,4 @@
 pub mod Method
 pub mod Entry
+pub mod Delays
+pub mod Shadows

@@ -37,12 +37,16 @@ proper-of : (x : Result (List Row)) → MayStand x → Proper x
 proper-of (found t) g = g .0
 proper-of (refused q) g = tt
 
-pub joined-may-stand : (rs : List Row) → All Wide rs → MayStand (joined rs [])
-joined-may-stand rs w = go (joined rs []) refl (joined-proper rs [] w (none, nil, nil, zero-le))
+-- rows that join such a set
+pub more-may-stand : (rs t : List Row) → All Wide rs → MayStand (found t) → MayStand (joined rs t)
+more-may-stand rs t w h = go (joined rs t) refl (joined-proper rs t w (h .0))
   where
-    go : (x : Result (List Row)) → joined rs [] ≡ x → Proper x → MayStand x
-    go (found t) e g = (g, joined-settled rs [] t e nil)
+    go : (x : Result (List Row)) → joined rs t ≡ x → Proper x → MayStand x
+    go (found u) e g = (g, joined-settled rs t u e (h .1))
     go (refused q) e g = tt
+
+pub joined-may-stand : (rs : List Row) → All Wide rs → MayStand (joined rs [])
+joined-may-stand rs w = more-may-stand rs [] w ((none, nil, nil, zero-le), nil)
 
 pub removed-may-stand : (v : ℕ) (s : List Row) → All Wide s → MayStand (removed v s)
 unfolding removed

@@ -39,7 +39,7 @@ impl Placed {
     }
 
     // A step's answer, with the store that it wrote.
-    fn of(c: Joined, second: bool) -> Placed
+    pub fn of(c: Joined, second: bool) -> Placed
         ensures { λ r. ⌜ r ≡ placed-as second c ⌝ }
     {
         let o = c.outcome;

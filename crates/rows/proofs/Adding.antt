@@ -92,7 +92,7 @@ unfolding all-zero every
 zero-rest [] f = refl
 zero-rest (z ∷ l) f = and-right (isZero z) (every isZero l) f
 
-some-entry : (l : List ℤ) → all-zero (drop 1 l) ≡ false → all-zero l ≡ false
+pub some-entry : (l : List ℤ) → all-zero (drop 1 l) ≡ false → all-zero l ≡ false
 some-entry l e = false-of (all-zero l) (λ f. not-both (sym e ∙ zero-rest l f))
 
 module _ {c : ℕ} (h : IsPos (pos c)) (r : Row) where

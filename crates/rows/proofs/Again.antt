@@ -34,9 +34,9 @@ whole-again h g z p q =
 only-one : (h n : ℕ) → (h * suc n) ∣ suc n → h ≡ 1
 only-one h n p = eq-one-of-dvd-one (dvd-of-mul-dvd-mul-right {k = suc n} h (zero-lt-suc n) (subst (λ (x : ℕ). (h * suc n) ∣ x) (sym (one-mul (suc n))) p))
 
-once : (l : List ℤ) → divisor (map (λ z. quotZ z (pos (divisor l))) l) ≡ 1
+pub divided-once : (l : List ℤ) → divisor (map (λ z. quotZ z (pos (divisor l))) l) ≡ 1
 unfolding divisor
-once l = go (gcd-from 0 l) refl
+divided-once l = go (gcd-from 0 l) refl
   where
     go : (g : ℕ) → gcd-from 0 l ≡ g → or-one (gcd-from 0 (map (λ z. quotZ z (pos (or-one g))) l)) ≡ 1
     go zero e = rw (quot-ones l, e) refl
@@ -47,12 +47,16 @@ once l = go (gcd-from 0 l) refl
         let c : All (λ z. (gcd-from 0 k * suc n) ∣ natAbs z) l = all-map (λ z h. whole-again (gcd-from 0 k) (suc n) z (h .0) (h .1)) (all-zip b a) in
         ap or-one (only-one (gcd-from 0 k) n (subst (λ (x : ℕ). (gcd-from 0 k * suc n) ∣ x) e (gcd-from-most (gcd-from 0 k * suc n) 0 l (dvd-zero _) c)))
 
+-- a row with divisor 1 stays as it is
+pub undivided : (r : Row) → divisor (r .entries) ≡ 1 → divided r ≡ r
+unfolding divided
+undivided r e =
+    let f : map (λ z. quotZ z (pos (divisor (r .entries)))) (r .entries) ≡ r .entries = ap (λ (g : ℕ). map (λ z. quotZ z (pos g)) (r .entries)) e ∙ quot-ones (r .entries) in
+    λ i. record { entries = f i; strict = r .strict }
+
 pub divided-twice : (r : Row) → divided (divided r) ≡ divided r
 unfolding divided
-divided-twice r =
-    let k : List ℤ = map (λ z. quotZ z (pos (divisor (r .entries)))) (r .entries) in
-    let e : map (λ z. quotZ z (pos (divisor k))) k ≡ k = ap (λ (g : ℕ). map (λ z. quotZ z (pos g)) k) (once (r .entries)) ∙ quot-ones k in
-    λ i. record { entries = e i; strict = r .strict }
+divided-twice r = undivided (divided r) (divided-once (r .entries))
 
 -- ---- a row with variables keeps some
 zero-back : (g : ℕ) (z : ℤ) → g ∣ natAbs z → quotZ z (pos g) ≡ pos 0 → natAbs z ≡ 0
@@ -80,7 +84,7 @@ still-variable r e = false-of _ (λ f. not-both (sym e ∙ zeros-back (divisor (
     (ap all-zero (sym (drop-map (λ z. quotZ z (pos (divisor (r .entries)))) (r .entries))) ∙ f)))
 
 -- ---- dividing down again
-again-false : divided-down false-row ≡ kept false-row
+pub again-false : divided-down false-row ≡ kept false-row
 unfolding divided-down constant all-zero every with-entry
 again-false = refl
 

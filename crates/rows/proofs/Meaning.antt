@@ -3,7 +3,7 @@
 use mathlib.Core.Path.{_≡_, refl, sym, _∙_, ap, ap₂}
 use mathlib.Core.Bool.{true}
 use mathlib.Core.Logic.{_↔_, Iff·trans, Iff·rfl}
-use mathlib.Core.List.{List, [], _∷_}
+use mathlib.Core.List.{List, [], _∷_, _++_}
 use Prim.Native.Nat.{ℕ, zero, suc}
 use native.Mathlib.Omega.{arith}
 use lib.ListN.{length, set, replicate}
@@ -135,6 +135,19 @@ dot-zero [] p e = refl
 dot-zero (a ∷ l) [] e = refl
 dot-zero (a ∷ l) (x ∷ p) e =
     rw (zero-of a (and-left (isZero a) (every isZero l) e), dot-zero l p (and-right (isZero a) (every isZero l) e)) (+ℤ-idr (pos 0 *ℤ x) ∙ zero-*ℤ x)
+
+-- zeros at the end of a point change nothing
+dot-zeros : (l : List ℤ) (k : ℕ) → dot l (replicate k (pos 0)) ≡ pos 0
+unfolding dot
+dot-zeros [] k = refl
+dot-zeros (a ∷ l) zero = refl
+dot-zeros (a ∷ l) (suc k) = rw (*ℤ-zero a, dot-zeros l k) refl
+
+pub dot-padded : (l p : List ℤ) (k : ℕ) → dot l (p ++ replicate k (pos 0)) ≡ dot l p
+unfolding dot
+dot-padded [] p k = refl
+dot-padded (a ∷ l) [] k = dot-zeros (a ∷ l) k
+dot-padded (a ∷ l) (x ∷ p) k = ap (λ (z : ℤ). a *ℤ x +ℤ z) (dot-padded l p k)
 
 pub dot-single : (v : ℕ) (z : ℤ) (p : List ℤ) → dot (single v z .entries) p ≡ z *ℤ at p v
 unfolding rest all-zero every

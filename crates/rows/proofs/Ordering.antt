@@ -56,7 +56,7 @@ number-same x y = go (ltZ x y) (ltZ y x) refl refl
     go false true f g e = after-not-same e
     go false false f g e = let a : y ≤ℤ x = ltZ-no (rw f tt) in let b : x ≤ℤ y = ltZ-no (rw g tt) in omega zed
 
-entries-same : (l m : List ℤ) → entry-order l m ≡ Same → l ≡ m
+pub entries-same : (l m : List ℤ) → entry-order l m ≡ Same → l ≡ m
 unfolding entry-order
 entries-same [] [] e = refl
 entries-same [] (y ∷ m) e = before-not-same e

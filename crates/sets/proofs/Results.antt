@@ -27,3 +27,9 @@ pub then-found : {A B : Type 0} (o : Result A) (f : A → Result B) (b : B) → 
 unfolding and-then
 then-found (found a) f b e = record { mid = a; first = refl; second = e }
 then-found (refused n) f b e = refused-not e
+
+-- three steps grouped one way or the other
+pub then-then : {A B C : Type 0} (x : Result A) (f : A → Result B) (g : B → Result C) → and-then (and-then x f) g ≡ and-then x (λ a. and-then (f a) g)
+unfolding and-then
+then-then (found a) f g = refl
+then-then (refused n) f g = refl

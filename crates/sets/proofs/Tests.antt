@@ -34,7 +34,7 @@ unfolding stands-in
 stands-in-is r [] e = not-both e
 stands-in-is r (s ∷ l) e = ⊎-elim (λ a. here (same-row-is r s a)) (λ b. there (stands-in-is r l b)) (or-true (same-row r s) (stands-in r l) e)
 
-or-right : (a : Bool) {b : Bool} → b ≡ true → (a || b) ≡ true
+pub or-right : (a : Bool) {b : Bool} → b ≡ true → (a || b) ≡ true
 or-right true e = refl
 or-right false e = e
 
