@@ -2,7 +2,7 @@
 use mathlib.Core.Path.{_≡_, refl, sym, ap, _∙_}
 use mathlib.Core.Bool.{Bool, true, false, cond}
 use mathlib.Core.List.{List, [], _∷_, _++_, append-assoc, append-nil}
-use Prim.Native.Nat.{ℕ, zero, suc, _+_, _≤_, _<_}
+use Prim.Native.Nat.{ℕ, _+_, _≤_, _<_}
 use native.Mathlib.Omega.{arith}
 use native.Mathlib.Numerals.{add-one}
 use borrow.Author.Tests.{eqb-true, ltb-true, ltb-false}
@@ -10,7 +10,7 @@ use lib.Dec.{eqb, ltb}
 use lib.ListN.{length, getD, take, drop, set, length-append}
 use lib.Seq.{take-all, take-suc-set, take-append-le}
 use Rattle.integers.proofs.Tests.{false-of}
-use Rattle.integers.proofs.Loops.{drop-turn, drop-done}
+use Rattle.integers.proofs.Loops.{drop-turn}
 use Rattle.sets.specs.declared.Refusal.the-variants.{NoFrame}
 use Rattle.sets.specs.Outcomes.{Result, found, refused, and-then}
 use Rattle.sets.proofs.Results.{refused-not}

@@ -7,3 +7,4 @@ pub mod Splitting
 pub mod Reaching
 pub mod Overwriting
 pub mod Lining
+pub mod Back

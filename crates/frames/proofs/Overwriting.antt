@@ -2,7 +2,7 @@
 use mathlib.Core.Path.{_≡_, refl, sym, ap, _∙_}
 use mathlib.Core.List.{List, [], _∷_, _++_, append-assoc, append-nil}
 use mathlib.Core.Bool.{Bool, true, false, cond}
-use Prim.Native.Nat.{ℕ, zero, suc, _+_, _-_, _*_, _/_, _%_, _^_, _≤_, _<_}
+use Prim.Native.Nat.{ℕ, suc, _+_, _-_, _*_, _/_, _%_, _^_, _≤_, _<_}
 use native.Mathlib.Omega.{arith}
 use native.Mathlib.Numerals.{add-one}
 use borrow.Author.Tests.{le-ltb, ltb-true}
@@ -173,7 +173,7 @@ pub row-digits : (r : Row) → line-of (row-bytes r) ≡ (digits-of (row-head (r
 unfolding line-of row-bytes
 row-digits r = ap (λ (t : List ℕ). t ++ (10 ∷ [])) (digits-then (row-head (r .strict) (term-number (r .entries))) (terms-of 0 (r .entries)))
 
-big-four : (n : ℕ) → length (big-endian 4 n) ≡ 4
+pub big-four : (n : ℕ) → length (big-endian 4 n) ≡ 4
 unfolding big-endian
 big-four n = refl
 

@@ -1,14 +1,14 @@
 -- Digits and pairs of digits: found below 16 and 256, or foreign. Assumes nothing.
-use mathlib.Core.Path.{_≡_, refl, sym, ap, _∙_}
+use mathlib.Core.Path.{_≡_, refl, ap}
 use mathlib.Core.Bool.{Bool, true, false, cond, _&&_}
 use Prim.Native.Nat.{ℕ, zero, suc, _+_, _-_, _*_, _^_, _≤_, _<_}
 use native.Mathlib.Omega.{arith}
 use mathlib.Core.List.{List, [], _∷_}
 use borrow.Author.Tests.{leb-true, lt-ltb, le-ltb}
 use lib.ListN.{length, set}
-use lib.IntN.{ℤ, pos, negsuc, _-ℤ_}
-use lib.Dec.{leb, ltb}
-use Rattle.integers.proofs.Tests.{and-left, and-right}
+use lib.IntN.{pos, negsuc, _-ℤ_}
+use lib.Dec.{leb}
+use Rattle.integers.proofs.Tests.{and-right}
 use Rattle.sets.specs.declared.Refusal.the-variants.{NoFrame}
 use Rattle.sets.specs.Outcomes.{Result, found, refused, and-then}
 use Rattle.frames.specs.Hex.{digit, pair, number-or, signed}

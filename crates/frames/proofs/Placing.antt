@@ -1,6 +1,6 @@
 -- The place of a frame, and a line of which the buffer has the first 1,280 bytes. Assumes nothing.
 use mathlib.Core.Path.{_≡_, refl, sym, ap, _∙_}
-use mathlib.Core.Bool.{Bool, true, false, cond, _&&_, _||_}
+use mathlib.Core.Bool.{Bool, true, false, cond, _||_}
 use mathlib.Core.List.{List, [], _∷_}
 use Prim.Native.Nat.{ℕ, zero, suc, _+_, _-_, _*_, _≤_, _<_}
 use native.Mathlib.Omega.{arith}
@@ -9,10 +9,9 @@ use lib.Dec.{leb, eqb, lit<}
 use lib.ListN.{length, getD, take, drop, length-drop}
 use lib.Seq.{length-take-le, take-all, take-nil, getD-take, getD-drop}
 use Rattle.integers.proofs.Tests.{and-left, and-right}
-use Rattle.sets.specs.declared.Outcome.{Outcome}
 use Rattle.sets.specs.declared.Outcome.the-variants.{Found, Refused}
 use Rattle.sets.specs.declared.Refusal.the-variants.{NoFrame, Misplaced}
-use Rattle.sets.specs.Outcomes.{Result, found, refused}
+use Rattle.sets.specs.Outcomes.{refused}
 use Rattle.models.specs.declared.Header.{Header}
 use Rattle.frames.specs.declared.Progress.{Progress}
 use Rattle.frames.specs.Reading.{Seen, progress-of, term-count, is-known, due-length, is-due, placed, passed, content, frame}

@@ -5,7 +5,7 @@ use mathlib.Core.List.{List, [], _∷_, _++_}
 use Prim.Native.Nat.{ℕ, zero, suc, _+_, _*_, _≤_, _<_}
 use native.Mathlib.Omega.{arith}
 use borrow.Author.Tests.{le-leb, lt-leb, ltb-true, eq-eqb, ne-eqb}
-use lib.Dec.{leb, ltb, eqb}
+use lib.Dec.{ltb, eqb}
 use lib.ListN.{length, drop, set, length-append, length-drop}
 use lib.Seq.{drop-drop}
 use Rattle.integers.proofs.Tests.{and-right}
@@ -14,10 +14,9 @@ use Rattle.rows.specs.Rows.{set-rows}
 use Rattle.sets.specs.declared.Outcome.the-variants.{Found, Refused}
 use Rattle.sets.specs.declared.Refusal.{Refusal}
 use Rattle.sets.specs.declared.Refusal.the-variants.{NoFrame, Misplaced, Undeclared, WrongTerms}
-use Rattle.sets.specs.Outcomes.{Result, found, refused, and-then}
+use Rattle.sets.specs.Outcomes.{found, refused, and-then}
 use Rattle.sets.proofs.Results.{refused-not, found-same}
 use Rattle.models.specs.declared.Header.{Header}
-use Rattle.models.specs.declared.Model.{Model}
 use Rattle.models.specs.declared.ModelRow.{ModelRow}
 use Rattle.models.specs.declared.Transition.{Transition}
 use Rattle.models.specs.Automaton.{padded}
@@ -26,7 +25,7 @@ use Rattle.models.proofs.Accepted.{clocks-within, parameters-within, transition
 use Rattle.frames.specs.declared.Progress.{Progress}
 use Rattle.frames.specs.declared.Frame.{Frame}
 use Rattle.frames.specs.Hex.{lines, first-bytes}
-use Rattle.frames.specs.Reading.{Seen, nothing, progress-of, header-of, reference-of, transition-of, row-of, term-count, is-known, due-length, is-due, placed, passed, row-declared, terms-fit, with-header, with-reference, with-transition, with-row, header-frame, reference-frame, transition-frame, row-frame, content, frame, all-lines, tables, zero-transition, zero-row, is-complete, at-end, input-limit, read}
+use Rattle.frames.specs.Reading.{Seen, nothing, progress-of, header-of, reference-of, transition-of, row-of, term-count, is-known, due-length, is-due, placed, passed, row-declared, terms-fit, with-header, with-reference, with-transition, with-row, header-frame, reference-frame, transition-frame, row-frame, content, frame, all-lines, tables, zero-transition, zero-row, input-limit, read}
 use Rattle.frames.specs.Steps.{Sound, after, Met}
 use Rattle.frames.proofs.Splitting.{remaining, goes-on, front-length}
 

@@ -1,8 +1,8 @@
 -- The first line of what is left of the input: reading goes on behind it, or ends there. Assumes nothing.
-use mathlib.Core.Path.{_≡_, refl, sym, ap, _∙_}
+use mathlib.Core.Path.{_≡_, refl, sym, _∙_}
 use mathlib.Core.Bool.{Bool, true, false, cond}
 use mathlib.Core.List.{List, [], _∷_}
-use Prim.Native.Nat.{ℕ, zero, suc, _+_, _*_, _≤_, _<_}
+use Prim.Native.Nat.{ℕ, suc, _+_, _*_, _≤_, _<_}
 use native.Mathlib.Omega.{arith}
 use borrow.Author.Tests.{eqb-true}
 use lib.Dec.{eqb}
@@ -13,10 +13,10 @@ use Rattle.sets.specs.declared.Refusal.the-variants.{NoFrame}
 use Rattle.sets.specs.Outcomes.{Result, found, refused, and-then}
 use Rattle.sets.proofs.Results.{refused-not, found-same}
 use Rattle.models.specs.declared.Model.{Model}
-use Rattle.frames.specs.Hex.{digit, pair, bytes-of, Lines, with-first, new-line, lines, first-bytes}
+use Rattle.frames.specs.Hex.{digit, pair, bytes-of, with-first, lines, first-bytes}
 use Rattle.frames.specs.Reading.{Seen, frame, line, all-lines, at-end}
 use Rattle.frames.proofs.Pairs.{Below, foreign, value, pair-below}
-use Rattle.frames.proofs.Decoding.{no-end, pair-first}
+use Rattle.frames.proofs.Decoding.{no-end}
 
 -- what reading makes of the rest of the input
 unfoldable pub remaining : Seen → List ℕ → Result Model

@@ -1,14 +1,14 @@
 -- What is taken from a frame of each kind leads from what was read before to what has been read then. Assumes nothing.
 use mathlib.Core.Path.{_≡_, refl, sym, ap, _∙_}
-use mathlib.Core.Bool.{Bool, true, false, cond, _&&_}
-use mathlib.Core.List.{List, [], _∷_, _++_, map}
-use Prim.Native.Nat.{ℕ, zero, suc, _+_, _*_, _≤_, _<_}
+use mathlib.Core.Bool.{true, false}
+use mathlib.Core.List.{List, [], _∷_, map}
+use Prim.Native.Nat.{ℕ, _≤_, _<_}
 use native.Mathlib.Omega.{arith}
-use lib.Dec.{leb, eqb}
-use lib.ListN.{length, getD, take, length-append}
+use lib.Dec.{leb}
+use lib.ListN.{length, take, length-append}
 use lib.Seq.{ext-getD}
 use lib.IntN.{ℤ, pos}
-use Rattle.integers.specs.Lists.{every, from}
+use Rattle.integers.specs.Lists.{from}
 use Rattle.integers.proofs.Tests.{and-right, not-both}
 use Rattle.rows.specs.Rows.{at}
 use Rattle.sets.specs.declared.Outcome.the-variants.{Found, Refused}
@@ -16,7 +16,6 @@ use Rattle.sets.specs.declared.Refusal.{Refusal}
 use Rattle.sets.specs.declared.Refusal.the-variants.{NoFrame}
 use Rattle.sets.specs.Outcomes.{Result, found, refused}
 use Rattle.models.specs.declared.Header.{Header}
-use Rattle.models.specs.declared.Reference.{Reference}
 use Rattle.models.specs.declared.Transition.{Transition}
 use Rattle.models.specs.declared.ModelRow.{ModelRow}
 use Rattle.models.specs.Automaton.{padded, reference-list}
@@ -25,10 +24,9 @@ use Rattle.models.proofs.Accepted.{any-entry}
 use Rattle.models.proofs.Setting.{at-declared, at-padded, length-counted}
 use Rattle.frames.specs.declared.Line.{Line}
 use Rattle.frames.specs.declared.Frame.{Frame}
-use Rattle.frames.specs.declared.Progress.{Progress}
 use Rattle.frames.specs.Hex.{byte}
-use Rattle.frames.specs.Reading.{Seen, progress-of, reference-table, term-count, term-entry, row-declared, with-header, with-reference, with-transition, with-row}
-use Rattle.frames.specs.Steps.{frame-limit, Decoded, Sound, after, Met, Told}
+use Rattle.frames.specs.Reading.{Seen, reference-table, term-count, term-entry, row-declared, with-header, with-reference, with-transition, with-row}
+use Rattle.frames.specs.Steps.{frame-limit, Decoded, Sound, Met, Told}
 use Rattle.frames.proofs.Counting.{counted-all}
 
 module _ (f : Frame) (s : Seen) (o : f .outcome ≡ Found) where

@@ -1,6 +1,6 @@
 -- Lines of uppercase hexadecimal (rules, "The hex exchange"): digits, bytes, numbers, lines.
-use mathlib.Core.Bool.{Bool, cond, _&&_}
-use mathlib.Core.List.{List, [], _∷_, _++_, map}
+use mathlib.Core.Bool.{cond, _&&_}
+use mathlib.Core.List.{List, [], _∷_, _++_}
 use Prim.Native.Nat.{ℕ, zero, suc, _+_, _-_, _*_, _/_, _%_, _^_}
 use lib.Dec.{leb, ltb, eqb}
 use lib.ListN.{getD}

@@ -2,7 +2,7 @@
 -- missing frames at the end of input.
 use mathlib.Core.Bool.{Bool, true, false, not, cond, _&&_, _||_}
 use mathlib.Core.List.{List, [], _∷_, _++_, map}
-use Prim.Native.Nat.{ℕ, zero, suc, _+_, _-_, _*_}
+use Prim.Native.Nat.{ℕ, suc, _+_, _-_, _*_}
 use lib.Dec.{leb, ltb, eqb}
 use lib.ListN.{length, drop, getD, replicate}
 use lib.IntN.{ℤ, pos, natAbs}
@@ -22,7 +22,7 @@ use Rattle.models.specs.declared.Model.{Model}
 use Rattle.models.specs.Automaton.{padded}
 use Rattle.models.specs.Acceptance.{between, header-fits, reference-fits, transition-declared, owner-declared, entry-declared}
 use Rattle.frames.specs.declared.Progress.{Progress}
-use Rattle.frames.specs.Hex.{bytes-of, byte, word, signed, Lines, lines}
+use Rattle.frames.specs.Hex.{bytes-of, byte, word, signed, lines}
 
 -- ---- what has been read: the header and the reference once they were met, the transitions and the rows in order
 pub record Seen : Type 0 where

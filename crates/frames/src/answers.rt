@@ -2,9 +2,8 @@
 ghost use mathlib.Core.Path.{_≡_};
 ghost use mathlib.Core.Bool.{cond};
 ghost use mathlib.Core.List.{[], _∷_};
-ghost use Prim.Native.Nat.{ℕ, _+_, _*_, _^_, _≤_, _<_};
+ghost use Prim.Native.Nat.{_+_, _*_, _^_, _≤_, _<_};
 ghost use lib.ListN.{length};
-ghost use lib.IntN.{ℤ};
 ghost use Rattle.integers.specs.Signs.{isZero};
 ghost use Rattle.frames.specs.Hex.{digit-of, digits-of, line-of, big-endian, pattern};
 ghost use Rattle.frames.specs.Writing.{Wrote, term-bytes, terms-of, term-number, row-head, row-bytes};

@@ -1,8 +1,7 @@
 // Hexadecimal digits, bytes of two digits, and numbers of four bytes.
 ghost use mathlib.Core.Path.{_≡_};
-ghost use Prim.Native.Nat.{ℕ, _+_, _*_, _^_, _≤_, _<_};
+ghost use Prim.Native.Nat.{_+_, _*_, _^_, _≤_, _<_};
 ghost use lib.ListN.{length};
-ghost use lib.IntN.{ℤ};
 ghost use Rattle.frames.specs.Hex.{digit, pair, number-or, word, signed};
 
 // A digit's value, or 16 for a foreign character.

@@ -1,11 +1,8 @@
 // Frames: what their bytes, the kind taken off, say.
 ghost use mathlib.Core.Path.{_≡_};
-ghost use mathlib.Core.Bool.{not, _&&_};
+ghost use mathlib.Core.Bool.{not};
 ghost use Prim.Native.Nat.{ℕ, _+_, _*_, _≤_, _<_};
-ghost use lib.Dec.{leb};
 ghost use lib.ListN.{length, getD, drop};
-ghost use lib.IntN.{ℤ, pos, natAbs};
-ghost use Rattle.integers.specs.Limits.{given-limit};
 ghost use Rattle.integers.specs.Lists.{every, from};
 ghost use Rattle.rows.specs.Rows.{at};
 ghost use Rattle.models.specs.Acceptance.{entry-declared};

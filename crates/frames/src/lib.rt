@@ -2,7 +2,7 @@
 ghost use mathlib.Core.Path.{_≡_};
 ghost use mathlib.Core.List.{[]};
 ghost use lib.ListN.{length};
-ghost use Prim.Native.Nat.{ℕ, _*_, _≤_};
+ghost use Prim.Native.Nat.{_*_, _≤_};
 ghost use Rattle.rows.specs.Rows.{row-numbers, set-rows};
 ghost use Rattle.sets.specs.Outcomes.{refused};
 ghost use Rattle.sets.specs.Stores.{rows-at};

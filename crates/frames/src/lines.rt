@@ -1,6 +1,6 @@
 // The line at a place of the input: its bytes, up to its LF.
 ghost use mathlib.Core.Path.{_≡_};
-ghost use Prim.Native.Nat.{ℕ, _+_, _*_, _≤_, _<_};
+ghost use Prim.Native.Nat.{_+_, _≤_, _<_};
 ghost use lib.Dec.{eqb};
 ghost use lib.ListN.{length, getD, set, drop};
 ghost use Rattle.frames.specs.Hex.{first-bytes};

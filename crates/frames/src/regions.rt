@@ -1,6 +1,6 @@
 // The answer: its frame 05, then the region as frames 03.
 ghost use mathlib.Core.Path.{_≡_};
-ghost use Prim.Native.Nat.{ℕ, _+_, _*_, _≤_, _<_};
+ghost use Prim.Native.Nat.{_+_, _*_, _≤_};
 ghost use lib.ListN.{length};
 ghost use Rattle.rows.specs.Rows.{row-numbers, set-rows};
 ghost use Rattle.sets.specs.Outcomes.{refusal-number, outcome-number};

@@ -1,11 +1,11 @@
 -- What is declared, case by case as the code tells it. Assumes nothing.
-use mathlib.Core.Path.{_≡_, refl, sym, ap, _∙_}
-use mathlib.Core.Bool.{Bool, true, false, not, _&&_, _||_}
+use mathlib.Core.Path.{_≡_, refl, sym}
+use mathlib.Core.Bool.{true, false, not}
 use Prim.Native.Nat.{ℕ, zero, suc, _+_, _*_, _%_, _^_, _≤_, _<_}
 use native.Mathlib.Nat.{pow-le-pow-right, lt-of-lt-of-le}
 use native.Mathlib.Omega.{arith}
-use borrow.Author.Tests.{lt-ltb, le-leb, lt-leb, eq-eqb, ne-eqb}
-use lib.Dec.{leb, ltb, eqb, lit<}
+use borrow.Author.Tests.{lt-ltb, le-leb, lt-leb, ne-eqb}
+use lib.Dec.{ltb, lit<}
 use Rattle.models.specs.declared.Header.{Header}
 use Rattle.models.specs.Acceptance.{between, owner-declared, entry-declared}
 

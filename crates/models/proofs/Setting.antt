@@ -6,7 +6,7 @@ use mathlib.Core.List.{List, [], _∷_, map}
 use Prim.Native.Nat.{ℕ, zero, suc, _+_, _-_, _<_, _≤_, zero-le}
 use native.Mathlib.Omega.{arith}
 use lib.ListN.{length, length-map, List·getD-eq-default}
-use lib.IntN.{ℤ, pos, natAbs, _+ℤ_, _*ℤ_, +ℤ-idr, *ℤ-zero}
+use lib.IntN.{ℤ, pos, _+ℤ_, _*ℤ_, *ℤ-zero}
 use native.Mathlib.Decide.{ℕ-discrete}
 use Rattle.integers.specs.Lists.{All, nil, cons, In, here, there, every, from}
 use Rattle.integers.proofs.Lists.{all-map, all-filter}

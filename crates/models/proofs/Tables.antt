@@ -1,11 +1,11 @@
 -- The tables gone through row by row: what the rows so far decide, and the rows of an owner. Assumes nothing.
-use mathlib.Core.Path.{_≡_, refl, sym, ap, ap₂, _∙_}
+use mathlib.Core.Path.{_≡_, refl, sym, ap, _∙_}
 use mathlib.Core.Bool.{Bool, true, false, not, cond, _&&_, _||_}
 use mathlib.Core.List.{List, [], _∷_, _++_, map, append-assoc, append-nil}
 use Prim.Native.Nat.{ℕ, zero, suc, _+_, _*_, _≤_, _<_}
 use native.Mathlib.Omega.{arith}
 use native.Mathlib.Numerals.{add-one}
-use borrow.Author.Tests.{le-leb, lt-leb, leb-true, leb-false}
+use borrow.Author.Tests.{leb-true, leb-false}
 use lib.Dec.{leb}
 use lib.ListN.{length, getD, take, drop, length-append, length-drop, length-map}
 use lib.Seq.{take-all, take-suc, length-take-le, getD-take, take-at, drop-append-add, drop-drop}
@@ -14,9 +14,8 @@ use Rattle.integers.specs.Lists.{All, nil, cons, every, filter}
 use Rattle.integers.specs.Signs.{isZero}
 use Rattle.integers.proofs.Lists.{all-append}
 use Rattle.integers.proofs.Loops.{drop-turn, drop-done}
-use Rattle.integers.proofs.Tests.{not-both}
 use Rattle.rows.specs.declared.Row.{Row}
-use Rattle.rows.specs.Rows.{flag, numbers, with-row, row-numbers, set-rows}
+use Rattle.rows.specs.Rows.{numbers, with-row, row-numbers, set-rows}
 use Rattle.sets.specs.declared.Refusal.{Refusal}
 use Rattle.sets.specs.declared.Refusal.the-variants.{Undeclared, WrongTerms}
 use Rattle.sets.specs.declared.Outcome.{Outcome}

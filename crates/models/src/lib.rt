@@ -2,10 +2,10 @@
 ghost use mathlib.Core.Path.{_≡_};
 ghost use mathlib.Core.Bool.{cond, not, _&&_, _||_};
 ghost use mathlib.Core.List.{[], _∷_, map};
-ghost use Prim.Native.Nat.{ℕ, _+_, _*_, _^_, _≤_, _<_};
-ghost use lib.Dec.{leb, ltb, eqb};
+ghost use Prim.Native.Nat.{_+_, _*_, _^_, _≤_, _<_};
+ghost use lib.Dec.{leb, ltb};
 ghost use lib.ListN.{length};
-ghost use lib.IntN.{ℤ, pos, natAbs};
+ghost use lib.IntN.{pos, natAbs};
 ghost use lib.Signed.{leZ};
 ghost use Rattle.integers.specs.Limits.{given-limit};
 ghost use Rattle.integers.specs.Lists.{All, every, from};

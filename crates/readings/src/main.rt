@@ -1,7 +1,6 @@
 // Reads models, case by case from standard input, and prints whether each is accepted, and the tables of those that are.
 // docs/VECTORS.md has the format of a case, and says where the cases and the expected output come from.
 ghost use Prim.Native.Nat.{ℕ, _≤_, _<_};
-
 use models::Model;
 use models::ModelRow;
 use models::Transition;
@@ -99,7 +98,13 @@ fn with_reference(h: u64, m: Model) -> u64 {
 }
 
 fn with_transition(h: u64, t: Transition) -> u64 {
-    with(with(with(with(h, t.source as u64), t.action as u64), t.target as u64), t.resets as u64)
+    with(
+        with(
+            with(with(h, t.source as u64), t.action as u64),
+            t.target as u64,
+        ),
+        t.resets as u64,
+    )
 }
 
 fn with_transitions(h: u64, m: Model) -> u64 {
@@ -115,7 +120,10 @@ fn with_transitions(h: u64, m: Model) -> u64 {
 
 fn with_row(h: u64, r: ModelRow) -> u64 {
     let entries = r.entries;
-    let mut sum = with(with(with(h, r.kind as u64), r.owner as u64), r.strict as u64);
+    let mut sum = with(
+        with(with(h, r.kind as u64), r.owner as u64),
+        r.strict as u64,
+    );
     for i in 0..16 {
         sum = with_signed(sum, entries[i]);
     }

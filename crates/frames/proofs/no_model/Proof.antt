@@ -1,7 +1,4 @@
 -- `frames::no_model` meets its contract. Assumes nothing.
-use mathlib.Core.Path.{_≡_, refl, sym, ap, _∙_}
-use Prim.Native.Nat.{ℕ, _+_, _-_, _≤_, _<_}
-use native.Mathlib.Omega.{arith}
 use borrow.Author.Needs.{needs}
 use Rattle.frames.specs.Reading.{tables}
 use Rattle.frames.proofs.no_model.Statement.{statement}

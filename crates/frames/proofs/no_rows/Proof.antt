@@ -1,7 +1,4 @@
 -- `frames::no_rows` meets its contract. Assumes nothing.
-use mathlib.Core.Path.{_≡_, refl, sym, ap, _∙_}
-use Prim.Native.Nat.{ℕ, _+_, _-_, _≤_, _<_}
-use native.Mathlib.Omega.{arith}
 use borrow.Author.Needs.{needs}
 use Rattle.models.specs.Automaton.{padded}
 use Rattle.frames.proofs.no_rows.Statement.{statement}

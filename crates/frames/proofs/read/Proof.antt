@@ -1,22 +1,18 @@
 -- `frames::read` meets its contract. Assumes nothing.
-use mathlib.Core.Path.{_≡_, refl, sym, ap, _∙_}
+use mathlib.Core.Path.{_≡_, sym, ap, _∙_}
 use Prim.Native.Nat.{ℕ, _+_, _-_, _*_, _≤_, _<_}
 use native.Mathlib.Omega.{arith}
 use borrow.Author.Needs.{needs}
 use Rattle.sets.specs.declared.Refusal.the-variants.{NoFrame}
-use mathlib.Core.Bool.{true, false, cond}
+use mathlib.Core.Bool.{false}
 use mathlib.Core.List.{List}
-use borrow.Author.Tests.{not-true, not-false, ne-eqb}
-use lib.Dec.{eqb}
-use lib.ListN.{drop, set, length-drop}
+use borrow.Author.Tests.{not-true, not-false}
+use lib.ListN.{drop, length-drop}
 use Rattle.sets.specs.Outcomes.{refused}
-use Rattle.models.specs.declared.Transition.{Transition}
-use Rattle.models.specs.declared.ModelRow.{ModelRow}
-use Rattle.frames.specs.declared.Progress.{Progress}
 use Rattle.frames.specs.declared.Frame.{Frame}
 use Rattle.frames.specs.Hex.{first-bytes}
-use Rattle.frames.specs.Reading.{Seen, nothing, frame, read}
-use Rattle.frames.specs.Steps.{Told, after}
+use Rattle.frames.specs.Reading.{nothing, frame, read}
+use Rattle.frames.specs.Steps.{Told}
 use Rattle.frames.proofs.Splitting.{remaining, only-no-frame, front-length}
 use Rattle.frames.proofs.Taking.{LineIs, good-line, bad-line, TakenAs, taken-frame, refused-frame}
 use Rattle.frames.specs.Steps.{reading-of}

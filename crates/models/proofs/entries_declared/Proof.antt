@@ -1,11 +1,11 @@
 -- `models::entries_declared` meets its contract: the test of what is left of the entries stays the test of all of them. Assumes nothing.
-use mathlib.Core.Path.{_≡_, refl, sym, ap, _∙_}
-use Prim.Native.Nat.{ℕ, _+_, _-_, _≤_, _<_}
+use mathlib.Core.Path.{_≡_, refl, sym, _∙_}
+use Prim.Native.Nat.{_-_, _≤_}
 use native.Mathlib.Omega.{arith}
 use borrow.Author.Needs.{needs}
 use borrow.Author.Tests.{not-true, not-false}
 use lib.ListN.{length, getD, drop}
-use lib.IntN.{ℤ, pos}
+use lib.IntN.{pos}
 use mathlib.Core.Bool.{_||_}
 use mir.Syntax.{w32}
 use Rattle.integers.specs.Signs.{isZero}

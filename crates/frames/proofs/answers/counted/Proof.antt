@@ -1,8 +1,6 @@
 -- `frames::answers::counted` meets its contract. Assumes nothing.
-use mathlib.Core.Path.{_≡_, refl, sym, ap, _∙_}
-use Prim.Native.Nat.{ℕ, _+_, _-_, _≤_, _<_}
+use mathlib.Core.Path.{refl}
 use native.Mathlib.Omega.{arith}
-use borrow.Author.Needs.{needs}
 use mir.Syntax.{w32}
 use Rattle.integers.proofs.Bounds.{bits-zero, zero-bits}
 use Rattle.frames.proofs.answers.counted.Statement.{statement}

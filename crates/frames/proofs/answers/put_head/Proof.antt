@@ -1,12 +1,10 @@
 -- `frames::answers::put_head` meets its contract. Assumes nothing.
-use mathlib.Core.Path.{_≡_, refl, sym, ap, _∙_}
-use Prim.Native.Nat.{ℕ, _+_, _-_, _≤_, _<_}
+use Prim.Native.Nat.{ℕ}
 use native.Mathlib.Omega.{arith}
 use borrow.Author.Needs.{needs}
-use mathlib.Core.List.{List, _∷_, [], _++_}
+use mathlib.Core.List.{_∷_, [], _++_}
 use mathlib.Core.Bool.{cond}
 use denote.Ref.{now}
-use lib.ListN.{length}
 use Rattle.frames.specs.Hex.{digits-of, big-endian}
 use Rattle.frames.proofs.Overwriting.{wrote-then, head-digits}
 use Rattle.frames.proofs.answers.put_head.Statement.{statement}

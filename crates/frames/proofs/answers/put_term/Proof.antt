@@ -1,6 +1,5 @@
 -- `frames::answers::put_term` meets its contract. Assumes nothing.
-use mathlib.Core.Path.{_≡_, refl, sym, ap, _∙_}
-use Prim.Native.Nat.{ℕ, _+_, _-_, _≤_, _<_}
+use Prim.Native.Nat.{_+_, _≤_}
 use native.Mathlib.Omega.{arith}
 use borrow.Author.Needs.{needs}
 use mir.Facts.{toZ-ofZ}
@@ -10,7 +9,7 @@ use lib.ListN.{length}
 use mir.Syntax.{w32}
 use Rattle.integers.proofs.Bounds.{bits-zero, zero-bits}
 use Rattle.frames.specs.Hex.{digits-of, big-endian, pattern}
-use Rattle.frames.proofs.Overwriting.{wrote-none, wrote-then, digits-then}
+use Rattle.frames.proofs.Overwriting.{wrote-none, wrote-then}
 use Rattle.frames.proofs.answers.put_term.Statement.{statement}
 use Rattle.frames.proofs.answers.put_term.Tie as tie
 

@@ -1,9 +1,9 @@
 -- `frames::answers::put_terms` meets its contract: what is still to be written, over the store as it is, stays what all of it is over the first one. Assumes nothing.
-use mathlib.Core.Path.{_≡_, refl, sym, ap, _∙_}
-use Prim.Native.Nat.{ℕ, _+_, _-_, _≤_, _<_}
+use mathlib.Core.Path.{_≡_, refl}
+use Prim.Native.Nat.{_+_, _-_, _≤_, _<_}
 use native.Mathlib.Omega.{arith}
 use borrow.Author.Needs.{needs}
-use mathlib.Core.List.{List, [], _++_}
+use mathlib.Core.List.{List, _++_}
 use denote.Ref.{now}
 use lib.ListN.{length, getD, drop, length-append}
 use lib.IntN.{ℤ, pos}

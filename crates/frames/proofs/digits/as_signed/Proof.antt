@@ -1,11 +1,11 @@
 -- `frames::digits::as_signed` meets its contract. Assumes nothing.
-use mathlib.Core.Path.{_≡_, refl, sym, ap, _∙_}
-use Prim.Native.Nat.{ℕ, suc, _-_, _^_}
+use mathlib.Core.Path.{_≡_, sym}
+use Prim.Native.Nat.{suc, _-_, _^_}
 use native.Mathlib.Omega.{arith}
 use borrow.Author.Needs.{needs}
-use lib.IntN.{ℤ, pos, negsuc, _-ℤ_}
+use lib.IntN.{pos, negsuc, _-ℤ_}
 use mir.Syntax.{w32, w64}
-use mir.Val.{SFits, toZ}
+use mir.Val.{toZ}
 use mir.Facts.{toZ-ofZ, toZ-pos}
 use Rattle.frames.proofs.Pairs.{below, signed-below}
 use Rattle.frames.proofs.digits.as_signed.Statement.{statement}

@@ -1,10 +1,8 @@
 -- `frames::digits::pair` meets its contract. Assumes nothing.
-use mathlib.Core.Path.{_≡_, refl, sym, ap, _∙_}
-use Prim.Native.Nat.{ℕ, _+_, _-_, _≤_, _<_}
 use native.Mathlib.Omega.{arith}
 use borrow.Author.Needs.{needs}
 use Rattle.sets.specs.Outcomes.{and-then}
-use Rattle.frames.specs.Hex.{digit, pair}
+use Rattle.frames.specs.Hex.{pair}
 use Rattle.frames.proofs.Pairs.{digit-below, is-foreign, is-value}
 use Rattle.frames.proofs.digits.pair.Statement.{statement}
 use Rattle.frames.proofs.digits.pair.Tie as tie

@@ -1,12 +1,10 @@
 -- `frames::digits::word` meets its contract. Assumes nothing.
-use mathlib.Core.Path.{_≡_, refl, sym, ap, _∙_}
-use Prim.Native.Nat.{ℕ, _+_, _-_, _≤_, _<_}
-use native.Mathlib.Omega.{arith}
+use mathlib.Core.Path.{_∙_}
 use borrow.Author.Needs.{needs}
 use Rattle.frames.proofs.Pairs.{halves}
 use mir.Syntax.{w32}
 use Rattle.integers.proofs.Bounds.{back}
-use Rattle.frames.specs.Hex.{signed, word}
+use Rattle.frames.specs.Hex.{word}
 use Rattle.frames.proofs.digits.word.Statement.{statement}
 use Rattle.frames.proofs.digits.word.Tie as tie
 

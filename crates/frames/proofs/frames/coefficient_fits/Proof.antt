@@ -1,9 +1,6 @@
 -- `frames::frames::coefficient_fits` meets its contract. Assumes nothing.
-use mathlib.Core.Path.{_≡_, refl, sym, ap, _∙_}
-use Prim.Native.Nat.{ℕ, _+_, _-_, _≤_, _<_}
-use native.Mathlib.Omega.{arith}
+use mathlib.Core.Path.{_∙_}
 use borrow.Author.Needs.{needs}
-use mathlib.Core.Bool.{not}
 use mir.Syntax.{w32, w64}
 use Rattle.integers.proofs.Bounds.{back}
 use Rattle.frames.proofs.Counting.{zero-read}

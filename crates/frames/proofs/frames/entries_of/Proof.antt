@@ -1,12 +1,11 @@
 -- `frames::frames::entries_of` meets its contract: the terms from the last on stand in the entries. Assumes nothing.
-use mathlib.Core.Path.{_≡_, refl, sym, ap, _∙_}
-use Prim.Native.Nat.{ℕ, _+_, _-_, _≤_, _<_}
+use mathlib.Core.Path.{_≡_, refl, sym}
+use Prim.Native.Nat.{_+_, _-_, _≤_, _<_}
 use native.Mathlib.Omega.{arith}
 use borrow.Author.Needs.{needs}
 use denote.Ref.{now}
 use native.Mathlib.Nat.{sub-self, sub-zero}
-use lib.ListN.{length, replicate, length-set}
-use lib.IntN.{pos}
+use lib.ListN.{length, length-set}
 use mir.Syntax.{w32}
 use Rattle.integers.specs.Lists.{from}
 use Rattle.integers.proofs.Bounds.{back}

@@ -1,9 +1,5 @@
 -- `frames::frames::reference_of` meets its contract. Assumes nothing.
-use mathlib.Core.Path.{_≡_, refl, sym, ap, _∙_}
-use Prim.Native.Nat.{ℕ, _+_, _-_, _≤_, _<_}
-use native.Mathlib.Omega.{arith}
 use borrow.Author.Needs.{needs}
-use Rattle.frames.specs.Reading.{reference-table}
 use mir.Syntax.{w32}
 use Rattle.integers.proofs.Bounds.{back}
 use Rattle.frames.proofs.frames.reference_of.Statement.{statement}

@@ -1,7 +1,4 @@
 -- `frames::frames::row_declared` meets its contract. Assumes nothing.
-use mathlib.Core.Path.{_≡_, refl, sym, ap, _∙_}
-use Prim.Native.Nat.{ℕ, _+_, _-_, _≤_, _<_}
-use native.Mathlib.Omega.{arith}
 use borrow.Author.Needs.{needs}
 use Rattle.frames.specs.Reading.{row-declared}
 use Rattle.frames.proofs.frames.row_declared.Statement.{statement}

@@ -1,11 +1,9 @@
 -- `frames::regions::put_answer` meets its contract. Assumes nothing.
-use mathlib.Core.Path.{_≡_, refl, sym, ap, _∙_}
-use Prim.Native.Nat.{ℕ, _+_, _-_, _≤_, _<_}
+use Prim.Native.Nat.{ℕ}
 use native.Mathlib.Omega.{arith}
 use borrow.Author.Needs.{needs}
 use mathlib.Core.List.{List, [], _∷_, _++_}
 use denote.Ref.{now}
-use lib.ListN.{length}
 use Rattle.sets.specs.Outcomes.{outcome-number}
 use Rattle.frames.specs.Hex.{digits-of, big-endian}
 use Rattle.frames.specs.Writing.{Wrote, count-bytes}

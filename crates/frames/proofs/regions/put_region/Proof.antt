@@ -1,10 +1,10 @@
 -- `frames::regions::put_region` meets its contract: what is still to be written, over the store as it is, stays what all of it is over the first one. Assumes nothing.
-use mathlib.Core.Path.{_≡_, refl, sym, ap, _∙_}
+use mathlib.Core.Path.{_≡_, refl}
 use Prim.Native.Nat.{ℕ, _+_, _-_, _*_, _≤_, _<_}
 use native.Mathlib.Omega.{arith}
 use borrow.Author.Needs.{needs}
 use lib.IntN.{ℤ}
-use mathlib.Core.List.{List, [], _++_}
+use mathlib.Core.List.{List, _++_}
 use denote.Ref.{now}
 use lib.ListN.{length, length-append}
 use Rattle.rows.specs.Rows.{row-numbers, row-at}

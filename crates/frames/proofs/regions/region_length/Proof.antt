@@ -1,9 +1,8 @@
 -- `frames::regions::region_length` meets its contract: the lines passed and those that are left add up. Assumes nothing.
-use mathlib.Core.Path.{_≡_, refl, sym, ap, _∙_}
+use mathlib.Core.Path.{_≡_, ap, _∙_}
 use Prim.Native.Nat.{ℕ, _+_, _-_, _*_, _≤_, _<_}
 use native.Mathlib.Omega.{arith}
 use borrow.Author.Needs.{needs}
-use mathlib.Core.List.{List, []}
 use denote.Ref.{now}
 use lib.ListN.{length, length-append}
 use Rattle.rows.specs.Rows.{row-numbers, row-at}

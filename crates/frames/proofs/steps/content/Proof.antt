@@ -1,10 +1,6 @@
 -- `frames::steps::content` meets its contract. Assumes nothing.
-use mathlib.Core.Path.{_≡_, refl, sym, ap, _∙_}
-use Prim.Native.Nat.{ℕ, _+_, _-_, _≤_, _<_}
+use mathlib.Core.Path.{_≡_}
 use native.Mathlib.Omega.{arith}
-use borrow.Author.Needs.{needs}
-use borrow.Author.Tests.{ne-eqb, eq-eqb}
-use denote.Ref.{now}
 use Rattle.frames.specs.Reading.{due-length, content}
 use Rattle.frames.proofs.steps.content.Statement.{statement}
 use Rattle.frames.proofs.steps.content.Tie as tie

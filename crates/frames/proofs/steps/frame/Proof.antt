@@ -1,12 +1,11 @@
 -- `frames::steps::frame` meets its contract. Assumes nothing.
-use mathlib.Core.Path.{_≡_, refl, sym, ap, _∙_}
-use Prim.Native.Nat.{ℕ, _+_, _-_, _≤_, _<_}
+use mathlib.Core.Path.{_≡_, sym, ap, _∙_}
+use Prim.Native.Nat.{ℕ, _-_, _≤_, _<_}
 use native.Mathlib.Omega.{arith}
 use borrow.Author.Needs.{needs}
 use Rattle.sets.specs.declared.Outcome.{Outcome}
 use Rattle.sets.specs.Outcomes.{refused}
 use mathlib.Core.List.{List}
-use Rattle.sets.specs.declared.Outcome.the-variants.{Found}
 use Rattle.frames.specs.declared.Progress.{Progress}
 use denote.Ref.{now}
 use lib.ListN.{length, take, drop, getD}

@@ -1,11 +1,8 @@
 -- `frames::steps::header_frame` meets its contract. Assumes nothing.
-use mathlib.Core.Path.{_≡_, refl, sym, ap, _∙_}
-use Prim.Native.Nat.{ℕ, _+_, _-_, _≤_, _<_}
-use native.Mathlib.Omega.{arith}
+use mathlib.Core.Path.{sym, _∙_}
 use borrow.Author.Needs.{needs}
 use borrow.Author.Tests.{not-true, not-false}
 use denote.Ref.{now}
-use Rattle.models.specs.Acceptance.{header-fits}
 use Rattle.frames.specs.Reading.{header-of, header-frame}
 use Rattle.frames.proofs.Taking.{met-header}
 use Rattle.frames.proofs.steps.header_frame.Statement.{statement}

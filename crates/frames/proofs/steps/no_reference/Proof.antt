@@ -1,8 +1,5 @@
 -- `frames::steps::no_reference` meets its contract. Assumes nothing.
-use mathlib.Core.Path.{_≡_, refl, sym, ap, _∙_}
-use Prim.Native.Nat.{ℕ, _+_, _-_, _≤_, _<_}
-use native.Mathlib.Omega.{arith}
-use borrow.Author.Needs.{needs}
+use mathlib.Core.Path.{refl}
 use Rattle.models.specs.Automaton.{padded}
 use Rattle.frames.proofs.steps.no_reference.Statement.{statement}
 use Rattle.frames.proofs.steps.no_reference.Tie as tie

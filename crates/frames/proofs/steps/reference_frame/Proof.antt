@@ -1,12 +1,11 @@
 -- `frames::steps::reference_frame` meets its contract. Assumes nothing.
-use mathlib.Core.Path.{_≡_, refl, sym, ap, _∙_}
+use mathlib.Core.Path.{_≡_, sym, ap, _∙_}
 use Prim.Native.Nat.{ℕ, _*_}
 use lib.IntN.{ℤ}
-use native.Mathlib.Omega.{arith}
 use borrow.Author.Needs.{needs}
 use borrow.Author.Tests.{not-true, not-false}
 use denote.Ref.{now}
-use mathlib.Core.Bool.{true, false}
+use mathlib.Core.Bool.{true}
 use Rattle.models.specs.Acceptance.{reference-fits}
 use Rattle.models.proofs.Setting.{length-counted}
 use Rattle.frames.specs.Hex.{signed, word}

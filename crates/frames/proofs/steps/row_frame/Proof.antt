@@ -1,12 +1,10 @@
 -- `frames::steps::row_frame` meets its contract. Assumes nothing.
-use mathlib.Core.Path.{_≡_, refl, sym, ap, _∙_}
-use Prim.Native.Nat.{ℕ, _+_, _-_, _≤_, _<_}
-use native.Mathlib.Omega.{arith}
+use mathlib.Core.Path.{_≡_, sym, _∙_}
 use borrow.Author.Needs.{needs}
 use borrow.Author.Tests.{not-true, not-false}
 use denote.Ref.{now}
-use mathlib.Core.Bool.{true, false}
-use Rattle.frames.specs.Reading.{row-of, row-declared, terms-fit, row-frame}
+use mathlib.Core.Bool.{true}
+use Rattle.frames.specs.Reading.{row-of, row-declared, row-frame}
 use Rattle.frames.proofs.Taking.{met-row, entries-within}
 use Rattle.frames.proofs.steps.row_frame.Statement.{statement}
 use Rattle.frames.proofs.steps.row_frame.Tie as tie

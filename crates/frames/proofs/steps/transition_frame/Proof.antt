@@ -1,7 +1,5 @@
 -- `frames::steps::transition_frame` meets its contract. Assumes nothing.
-use mathlib.Core.Path.{_≡_, refl, sym, ap, _∙_}
-use Prim.Native.Nat.{ℕ, _+_, _-_, _≤_, _<_}
-use native.Mathlib.Omega.{arith}
+use mathlib.Core.Path.{_≡_, sym, _∙_}
 use borrow.Author.Needs.{needs}
 use mathlib.Core.Bool.{true}
 use Rattle.models.specs.Acceptance.{transition-declared}

@@ -1,7 +1,5 @@
 -- `models::Header::entry_declared` meets its contract. Assumes nothing.
-use mathlib.Core.Path.{_≡_, refl, sym, ap, _∙_}
-use Prim.Native.Nat.{ℕ, _+_, _-_, _≤_, _<_}
-use native.Mathlib.Omega.{arith}
+use mathlib.Core.Path.{_∙_}
 use borrow.Author.Needs.{needs}
 use Rattle.models.proofs.Declared.{named, not-initial, a-clock}
 use Rattle.models.proofs.Header.entry_declared.Statement.{statement}

@@ -1,7 +1,4 @@
 -- `models::Header::fits` meets its contract. Assumes nothing.
-use mathlib.Core.Path.{_≡_, refl, sym, ap, _∙_}
-use Prim.Native.Nat.{ℕ, _+_, _-_, _≤_, _<_}
-use native.Mathlib.Omega.{arith}
 use borrow.Author.Needs.{needs}
 use Rattle.models.specs.Acceptance.{header-fits}
 use Rattle.models.proofs.Header.fits.Statement.{statement}

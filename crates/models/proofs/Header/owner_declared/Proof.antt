@@ -1,8 +1,7 @@
 -- `models::Header::owner_declared` meets its contract. Assumes nothing.
-use mathlib.Core.Path.{_≡_, refl, sym, ap, _∙_}
-use Prim.Native.Nat.{ℕ, _+_, _-_, _≤_, _<_}
+use mathlib.Core.Path.{_≡_}
+use Prim.Native.Nat.{_<_}
 use native.Mathlib.Omega.{arith}
-use borrow.Author.Needs.{needs}
 use Rattle.models.specs.Acceptance.{owner-declared}
 use Rattle.models.proofs.Declared.{no-owner}
 use Rattle.models.proofs.Header.owner_declared.Statement.{statement}

@@ -1,16 +1,14 @@
 -- `models::Model::accepted` meets its contract. Assumes nothing.
-use mathlib.Core.Path.{_≡_, refl, sym, ap, _∙_}
-use Prim.Native.Nat.{ℕ, _+_, _-_, _≤_, _<_}
-use native.Mathlib.Omega.{arith}
+use mathlib.Core.Path.{_≡_, sym, _∙_}
 use borrow.Author.Needs.{needs}
-use mathlib.Core.Bool.{true, false}
+use mathlib.Core.Bool.{true}
 use borrow.Author.Tests.{not-true, not-false}
 use Rattle.integers.specs.Lists.{every}
 use Rattle.integers.proofs.Lists.{all-map}
 use Rattle.sets.specs.declared.Outcome.the-variants.{Found}
 use Rattle.models.specs.declared.Model.{Model}
 use Rattle.models.specs.Automaton.{given-rows, given-transitions, given-reference}
-use Rattle.models.specs.Acceptance.{header-fits, reference-fits, transition-declared, rows-accepted, accepted}
+use Rattle.models.specs.Acceptance.{header-fits, reference-fits, transition-declared, accepted}
 use Rattle.models.proofs.Accepted.{parameters-within, transitions-within, past-rows, terms-small, reference-within}
 use Rattle.models.proofs.Tables.{rows-found, rows-refused}
 use Rattle.models.proofs.Model.accepted.Statement.{statement}

@@ -1,13 +1,13 @@
 -- `models::Model::rows_of` meets its contract: the rows so far that are the owner's stand in the store. Assumes nothing.
-use mathlib.Core.Path.{_≡_, refl, sym, ap, _∙_}
-use Prim.Native.Nat.{ℕ, _+_, _-_, _≤_, _<_}
+use mathlib.Core.Path.{_≡_}
+use Prim.Native.Nat.{_-_, _≤_, _<_}
 use native.Mathlib.Omega.{arith}
 use borrow.Author.Needs.{needs, length-unmapped}
 use lib.IntN.{ℤ}
 use denote.Ref.{now}
-use lib.ListN.{length, getD}
-use Rattle.models.specs.Automaton.{given-rows, row-of, rows-of}
-use Rattle.models.proofs.Tables.{long-mapped, no-row, held-few, held-length, held-at, Sixteen, Wrote, wrote-none, wrote-more, wrote-all}
+use lib.ListN.{length}
+use Rattle.models.specs.Automaton.{given-rows, rows-of}
+use Rattle.models.proofs.Tables.{long-mapped, no-row, held-few, held-length, held-at, Wrote, wrote-none, wrote-more, wrote-all}
 use Rattle.models.proofs.Model.rows_of.Statement.{statement}
 use Rattle.models.proofs.Model.rows_of.Tie as tie
 

@@ -1,12 +1,12 @@
 -- `models::Model::transitions_declared` meets its contract: the test of what is left of the table stays the test of all of it. Assumes nothing.
-use mathlib.Core.Path.{_≡_, refl, sym, ap, _∙_}
-use Prim.Native.Nat.{ℕ, _+_, _-_, _≤_, _<_}
+use mathlib.Core.Path.{_≡_, refl, sym, _∙_}
+use Prim.Native.Nat.{_-_, _≤_, _<_}
 use native.Mathlib.Omega.{arith}
 use borrow.Author.Needs.{needs}
 use mathlib.Core.List.{List}
 use Rattle.models.specs.declared.Transition.{Transition}
 use borrow.Author.Tests.{not-true, not-false}
-use lib.ListN.{length, getD, take, drop}
+use lib.ListN.{length, getD, drop}
 use lib.Seq.{length-take-le, getD-take}
 use Rattle.integers.specs.Lists.{every}
 use Rattle.integers.proofs.Loops.{every-stops, every-turn, every-done}

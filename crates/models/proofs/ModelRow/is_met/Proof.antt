@@ -1,9 +1,6 @@
 -- `models::ModelRow::is_met` meets its contract. Assumes nothing.
-use mathlib.Core.Path.{_≡_, refl, sym, ap, _∙_}
-use Prim.Native.Nat.{ℕ, _+_, _-_, _≤_, _<_}
-use native.Mathlib.Omega.{arith}
+use mathlib.Core.Path.{sym, _∙_}
 use borrow.Author.Needs.{needs}
-use mathlib.Core.Bool.{not, _||_}
 use Rattle.models.proofs.ModelRow.is_met.Statement.{statement}
 use Rattle.models.proofs.ModelRow.is_met.Tie as tie
 

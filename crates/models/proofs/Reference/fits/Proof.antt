@@ -1,7 +1,5 @@
 -- `models::Reference::fits` meets its contract. Assumes nothing.
-use mathlib.Core.Path.{_≡_, refl, sym, ap, _∙_}
-use Prim.Native.Nat.{ℕ, _+_, _-_, _≤_, _<_}
-use native.Mathlib.Omega.{arith}
+use mathlib.Core.Path.{_≡_}
 use borrow.Author.Needs.{needs}
 use mir.Syntax.{w32}
 use Rattle.integers.specs.Limits.{given-limit}

@@ -1,9 +1,8 @@
 -- `models::Reference::number` meets its contract. Assumes nothing.
-use mathlib.Core.Path.{_≡_, refl, sym, ap, _∙_}
-use Prim.Native.Nat.{ℕ, _+_, _-_, _≤_, _<_}
+use mathlib.Core.Path.{sym, _∙_}
+use Prim.Native.Nat.{_-_, _<_}
 use native.Mathlib.Omega.{arith}
 use borrow.Author.Needs.{needs}
-use lib.IntN.{ℤ, pos}
 use Rattle.rows.specs.Rows.{at}
 use Rattle.models.proofs.Setting.{numerator-at, reference-past}
 use mir.Syntax.{w32, w64}

@@ -1,12 +1,12 @@
 -- `models::Reference::numerators_fit` meets its contract: the test of what is left of the numerators stays the test of all of them. Assumes nothing.
-use mathlib.Core.Path.{_≡_, refl, sym, ap, _∙_}
-use Prim.Native.Nat.{ℕ, _+_, _-_, _≤_, _<_}
+use mathlib.Core.Path.{_≡_, refl, sym, _∙_}
+use Prim.Native.Nat.{ℕ, _-_, _≤_, _<_}
 use native.Mathlib.Omega.{arith}
 use borrow.Author.Needs.{needs}
 use borrow.Author.Tests.{not-true, not-false}
-use mathlib.Core.Bool.{Bool, _&&_}
+use mathlib.Core.Bool.{Bool}
 use mathlib.Core.List.{List, map}
-use lib.ListN.{length, getD, drop}
+use lib.ListN.{getD, drop}
 use lib.IntN.{ℤ, pos}
 use mir.Syntax.{w32}
 use Rattle.integers.specs.Limits.{given-limit}
