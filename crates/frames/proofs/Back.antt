@@ -1,10 +1,10 @@
--- What is written for a row is read back: the bytes of its line, and from them its entries and its flag. Assumes nothing.
+-- What is written for a region is read back: its lines, the bytes of each line, and from them a row's entries and its flag. Assumes nothing.
 use mathlib.Core.Path.{_≡_, refl, sym, ap, _∙_}
 use mathlib.Core.Bool.{Bool, true, false, cond}
-use mathlib.Core.List.{List, [], _∷_, _++_, append-assoc}
+use mathlib.Core.List.{List, [], _∷_, _++_, append-assoc, map}
 use Prim.Native.Nat.{ℕ, zero, suc, _+_, _-_, _*_, _/_, _%_, _^_, _≤_, _<_}
 use native.Mathlib.Omega.{arith}
-use borrow.Author.Tests.{lt-ltb, le-ltb, ltb-true, ltb-false, le-leb, lt-leb}
+use borrow.Author.Tests.{lt-ltb, le-ltb, ltb-true, ltb-false, le-leb, lt-leb, ne-eqb}
 use lib.Dec.{ltb, eqb, lit<}
 use lib.ListN.{length, drop, replicate, length-append}
 use lib.Seq.{getD-append-add}
@@ -16,9 +16,9 @@ use Rattle.integers.proofs.Tests.{zero-of}
 use Rattle.rows.specs.declared.Row.{Row}
 use Rattle.rows.specs.Rows.{entry-count, with-entry}
 use Rattle.sets.specs.Outcomes.{found, and-then}
-use Rattle.frames.specs.Hex.{digit, pair, bytes-of, byte, word, signed, digit-of, digits-of, big-endian, pattern}
+use Rattle.frames.specs.Hex.{digit, pair, bytes-of, byte, word, signed, Lines, lines, digit-of, digits-of, line-of, big-endian, pattern}
 use Rattle.frames.specs.Reading.{term-count, term-entry, term-coefficient, entries-of}
-use Rattle.frames.specs.Writing.{term-bytes, terms-of, term-number, flag-byte, row-bytes}
+use Rattle.frames.specs.Writing.{term-bytes, terms-of, term-number, flag-byte, row-bytes, row-lines}
 use Rattle.frames.proofs.Overwriting.{big-four}
 
 -- ---- digits and bytes
@@ -163,12 +163,41 @@ count-small (z ∷ l) = go (isZero z) (count-small l)
     go true h = omega arith
     go false h = omega arith
 
-pub line-back : (r : Row) → length (r .entries) ≡ entry-count → bytes-of (digits-of (row-bytes r)) ≡ found (row-bytes r)
+row-all-bytes : (r : Row) → length (r .entries) ≡ entry-count → All Byte (row-bytes r)
 unfolding row-bytes
-line-back r size =
+row-all-bytes r size =
     let n : Byte (term-number (r .entries)) = omega (arith, count-small (r .entries)) in
-    bytes-back (row-bytes r) (cons (lit< tt) (cons (lit< tt) (cons (lit< tt) (cons (flag-small (r .strict)) (cons n (terms-bytes (r .entries) 0 (omega arith)))))))
+    cons (lit< tt) (cons (lit< tt) (cons (lit< tt) (cons (flag-small (r .strict)) (cons n (terms-bytes (r .entries) 0 (omega arith))))))
   where
     flag-small : (b : Bool) → Byte (cond b 1 0)
     flag-small true = omega arith
     flag-small false = omega arith
+
+pub line-back : (r : Row) → length (r .entries) ≡ entry-count → bytes-of (digits-of (row-bytes r)) ≡ found (row-bytes r)
+line-back r size = bytes-back (row-bytes r) (row-all-bytes r size)
+
+-- ---- the lines of a region: no digit is an LF, so the reader finds a line for each row, in order, and nothing behind the last
+no-end : (n : ℕ) → n < 16 → eqb (digit-of n) 10 ≡ false
+no-end n h = go (ltb n 10)
+  where
+    go : (b : Bool) → eqb (cond b (48 + n) (55 + n)) 10 ≡ false
+    go true = ne-eqb (48 + n) 10 (omega arith)
+    go false = ne-eqb (55 + n) 10 (omega arith)
+
+abbrev first-line : List ℕ → Lines → Lines
+first-line l x = record { ended = l ∷ x .ended; left = x .left }
+
+split-off : (bs rest : List ℕ) → All Byte bs → lines (line-of bs ++ rest) ≡ first-line (digits-of bs) (lines rest)
+unfolding lines line-of digits-of
+split-off [] rest a = refl
+split-off (b ∷ bs) rest a =
+    let h : b < 256 = all-head a in
+    rw (no-end (b / 16) (omega arith), no-end (b % 16) (omega arith), split-off bs rest (all-tail a))
+
+abbrev region-lines : List Row → Lines
+region-lines rs = record { ended = map (λ r. digits-of (row-bytes r)) rs; left = [] }
+
+pub lines-back : (rs : List Row) → All (λ r. length (r .entries) ≡ entry-count) rs → lines (row-lines rs) ≡ region-lines rs
+unfolding row-lines lines
+lines-back [] a = refl
+lines-back (r ∷ rs) a = split-off (row-bytes r) (row-lines rs) (row-all-bytes r (all-head a)) ∙ ap (first-line (digits-of (row-bytes r))) (lines-back rs (all-tail a))

@@ -8,3 +8,4 @@ pub mod Reaching
 pub mod Overwriting
 pub mod Lining
 pub mod Back
+pub mod Only
