@@ -83,7 +83,7 @@ module _ (p : List ℕ) (k i : ℕ) (z : ℤ) (rest : List ℕ) (size : length p
       rw (a, b, c, d, at-term 1, at-term 2, at-term 3, at-term 4, four-back n (pattern-fits z small)) (pattern-back z small)
 
 -- zeros, then the entries from number i on
-put-entry : (i : ℕ) (z : ℤ) (l : List ℤ) → with-entry i z (replicate (suc i) (pos 0) ++ l) ≡ replicate i (pos 0) ++ (z ∷ l)
+pub put-entry : (i : ℕ) (z : ℤ) (l : List ℤ) → with-entry i z (replicate (suc i) (pos 0) ++ l) ≡ replicate i (pos 0) ++ (z ∷ l)
 unfolding with-entry
 put-entry zero z l = refl
 put-entry (suc i) z l = ap (λ (t : List ℤ). pos 0 ∷ t) (put-entry i z l)

@@ -9,3 +9,5 @@ pub mod Overwriting
 pub mod Lining
 pub mod Back
 pub mod Only
+pub mod Rewriting
+pub mod Determined

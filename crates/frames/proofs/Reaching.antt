@@ -35,7 +35,7 @@ pub record Few (s : Seen) : Type 0 where
   pub transitions : length (s .transitions) ≤ 64
   pub rows : length (s .rows) ≤ set-rows
 
-passed-found : {A : Type 0} (b : Bool) (x t : A) (q : Refusal) → cond b (found x) (refused q) ≡ found t → (b ≡ true) × (x ≡ t)
+pub passed-found : {A : Type 0} (b : Bool) (x t : A) (q : Refusal) → cond b (found x) (refused q) ≡ found t → (b ≡ true) × (x ≡ t)
 passed-found true x t q e = (refl, found-same e)
 passed-found false x t q e = refused-not e
 
