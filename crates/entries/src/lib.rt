@@ -23,6 +23,7 @@ pub fn widened(from: [i32; 16]) -> [i64; 16]
     to
 }
 
+// Inner step: entries within the limit, back in 32 bits.
 pub fn narrowed(l: [i64; 16]) -> [i32; 16]
     requires { ⌜ Small l ⌝ }
     ensures { λ r. ⌜ r ≡ l ⌝ }
@@ -51,6 +52,7 @@ pub fn divisor(l: [i64; 16]) -> u64
     if g == 0 { 1 } else { g }
 }
 
+// Inner step: each entry divided by a positive number.
 pub fn quotients(l: [i64; 16], d: u64) -> [i64; 16]
     requires { ⌜ Within (2 ^ 62) l × (0 < d) × (d < 2 ^ 63) ⌝ }
     ensures { λ r. ⌜ r ≡ map (λ z. quotZ z (pos d)) l ⌝ }
@@ -85,6 +87,7 @@ pub fn no_variables(l: [i64; 16]) -> bool
     true
 }
 
+// Inner step: b·x + a·y, which 64 bits hold for entries and multipliers within the limit.
 pub fn combined(x: [i64; 16], y: [i64; 16], a: i64, b: i64) -> [i64; 16]
     requires { ⌜ Small x × Small y × (natAbs a ≤ entry-limit) × (natAbs b ≤ entry-limit) ⌝ }
     ensures { λ r. ⌜ r ≡ plus (times b x) (times a y) ⌝ }
@@ -96,6 +99,7 @@ pub fn combined(x: [i64; 16], y: [i64; 16], a: i64, b: i64) -> [i64; 16]
     to
 }
 
+// Inner step: x + y, which 32 bits hold for entries within the limit.
 pub fn added(x: [i32; 16], y: [i32; 16]) -> [i32; 16]
     requires { ⌜ Small x × Small y ⌝ }
     ensures { λ r. ⌜ r ≡ plus x y ⌝ }

@@ -155,7 +155,7 @@ fn join_pairs(
     d
 }
 
-// Each pair is looked at for 9, and then built to be stored.
+// Inner step: a set without a variable, in another store. Each pair is looked at for 9, and then built to be stored.
 pub fn without(from: &[i32], n: usize, v: usize, to: &mut [i32]) -> Joined
     requires { ⌜ DividedSet (now from) n × (0 < v) × (v < entry-count) × (set-numbers ≤ length (now to)) ⌝ }
     ensures { λ r. ⌜ Left (removed v (set-in (now (from .entry)) n)) (now (to .entry)) (now (to .exit)) r ⌝ }

@@ -28,6 +28,7 @@ pub fn signed_byte(b: u8) -> i32 {
     }
 }
 
+// Inner step: the number is one of four bytes.
 pub fn signed_word(n: u64) -> i32
     requires { ⌜ n ≤ 4294967295 ⌝ }
 {
