@@ -3,43 +3,12 @@ ghost use mathlib.Core.Path.{_≡_};
 ghost use Prim.Native.Nat.{_+_, _*_, _≤_};
 ghost use lib.ListN.{length};
 ghost use Rattle.rows.specs.Rows.{row-numbers, set-rows};
-ghost use Rattle.sets.specs.Outcomes.{refusal-number, outcome-number};
 ghost use Rattle.sets.specs.Stores.{rows-at};
 ghost use Rattle.frames.specs.Hex.{digits-of, line-of};
 ghost use Rattle.frames.specs.Writing.{Wrote, row-lines, count-bytes, answer-bytes};
 use crate::answers;
 use rows::Row;
 use sets::Outcome;
-use sets::Refusal;
-
-fn number_of_refusal(q: Refusal) -> u8
-    ensures { λ r. ⌜ r ≡ refusal-number q ⌝ }
-{
-    match q {
-        Refusal::NoFrame => 1,
-        Refusal::Misplaced => 2,
-        Refusal::HeaderRange => 3,
-        Refusal::ReferenceRange => 4,
-        Refusal::Undeclared => 5,
-        Refusal::WrongTerms => 6,
-        Refusal::InitialBroken => 7,
-        Refusal::InvariantBroken => 8,
-        Refusal::EntryTooLarge => 9,
-        Refusal::TooManyRows => 10,
-        Refusal::NoRoom => 11,
-        Refusal::BudgetUsed => 12,
-        Refusal::ShortStore => 13,
-    }
-}
-
-fn number_of(o: Outcome) -> u8
-    ensures { λ r. ⌜ r ≡ outcome-number o ⌝ }
-{
-    match o {
-        Outcome::Found => 0,
-        Outcome::Refused(q) => number_of_refusal(q),
-    }
-}
 
 // Inner step: how many characters the lines of the region have.
 pub fn region_length(region: &[i32], n: usize) -> usize
@@ -88,7 +57,7 @@ pub fn put_answer(
     ensures { λ r. ⌜ Wrote (line-of (answer-bytes outcome states attempts formed rows)) 0 (now (to .entry)) (now (to .exit)) r ⌝ }
 {
     let kind = answers::put_byte(to, 0, 5);
-    let counts = answers::put_byte(to, kind, number_of(outcome));
+    let counts = answers::put_byte(to, kind, outcome.number());
     let last = put_counts(to, counts, states, attempts, formed);
     let end = answers::put_byte(to, last, rows);
     answers::put_end(to, end)

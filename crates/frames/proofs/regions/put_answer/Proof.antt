@@ -33,7 +33,7 @@ second : (c : tie.After-put-byte2) → Wrote (number (first c)) 0 (to (first c))
 unfolding digits-of
 second c =
     let f = first c in
-    wrote-then (kind f) _ 0 _ _ (to f) _ _ (omega (arith, start f .pre)) (f .put-byte .ensures) (rw (c .before .number-of .ensures) at (c .put-byte2 .ensures))
+    wrote-then (kind f) _ 0 _ _ (to f) _ _ (omega (arith, start f .pre)) (f .put-byte .ensures) (rw (c .before .number .ensures) at (c .put-byte2 .ensures))
 
 abbrev second-of : tie.After-put-counts → tie.After-put-byte2
 second-of c = c .before .before .before .before
