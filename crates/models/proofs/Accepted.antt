@@ -100,6 +100,12 @@ parameters-within h e =
     let a = and-left (between 1 (h .parameters) 8) _ (and-right (between 1 (h .clocks) 6) _ e) in
     leb-true (h .parameters) 8 (and-right (leb 1 (h .parameters)) (leb (h .parameters) 8) a)
 
+pub locations-within : (h : Header) → header-fits h ≡ true → (1 ≤ h .locations) × (h .locations ≤ 32)
+unfolding header-fits
+locations-within h e =
+    let a = and-left (between 1 (h .locations) 32) _ (and-right (between 1 (h .parameters) 8) _ (and-right (between 1 (h .clocks) 6) _ e)) in
+    (leb-true 1 (h .locations) (and-left (leb 1 (h .locations)) (leb (h .locations) 32) a), leb-true (h .locations) 32 (and-right (leb 1 (h .locations)) (leb (h .locations) 32) a))
+
 pub transitions-within : (h : Header) → header-fits h ≡ true → h .transitions ≤ 64
 unfolding header-fits
 transitions-within h e =
@@ -187,7 +193,7 @@ module _ (h : Header) (kind n : ℕ) (last : (i : ℕ) → entry-declared h kind
       zeros-past (r .entries) 0 (rw⁻¹ k a) i (omega arith)
 
 -- the rows of an owner
-rows-name : (m : Model) (kind owner n : ℕ) → ((i : ℕ) → entry-declared (m .header) kind i ≡ true → i ≤ n) →
+pub rows-name : (m : Model) (kind owner n : ℕ) → ((i : ℕ) → entry-declared (m .header) kind i ≡ true → i ≤ n) →
     All (RowPassed (m .header)) (given-rows m) → All (Names n) (rows-of m kind owner)
 unfolding rows-of
 rows-name m kind owner n last a =
@@ -197,7 +203,7 @@ rows-name m kind owner n last a =
     (all-map (λ r p t. row-names (m .header) kind n last r (p .0) (eqb-true (r .kind) kind (and-left (eqb (r .kind) kind) (eqb (r .owner) owner) (true-of t)))) a))
 
 -- ---- the transitions: number j as its edge
-abbrev edge : Model → ℕ → Transition → Edge
+abbrev pub edge : Model → ℕ → Transition → Edge
 edge m j t = record {
   source = t .source;
   action = t .action;

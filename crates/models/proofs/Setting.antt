@@ -2,10 +2,10 @@
 -- of eight parameters. Assumes nothing.
 use mathlib.Core.Path.{_≡_, refl, sym, ap, ap₂, _∙_}
 use mathlib.Core.Bool.{Bool, _&&_}
-use mathlib.Core.List.{List, [], _∷_, map}
+use mathlib.Core.List.{List, [], _∷_, _++_, map}
 use Prim.Native.Nat.{ℕ, zero, suc, _+_, _-_, _<_, _≤_, zero-le}
 use native.Mathlib.Omega.{arith}
-use lib.ListN.{length, length-map, List·getD-eq-default}
+use lib.ListN.{length, replicate, length-map, List·getD-eq-default}
 use lib.IntN.{ℤ, pos, _+ℤ_, _*ℤ_, *ℤ-zero}
 use native.Mathlib.Decide.{ℕ-discrete}
 use Rattle.integers.specs.Lists.{All, nil, cons, In, here, there, every, from}
@@ -71,6 +71,19 @@ at-padded (suc n) [] zero h = refl
 at-padded (suc n) [] (suc i) h = at-padded n [] i (omega arith)
 at-padded (suc n) (x ∷ l) zero h = refl
 at-padded (suc n) (x ∷ l) (suc i) h = at-padded n l i (omega arith)
+
+padded-none : (n : ℕ) → padded n (pos 0) [] ≡ replicate n (pos 0)
+unfolding padded
+padded-none zero = refl
+padded-none (suc n) = ap (λ (k : List ℤ). pos 0 ∷ k) (padded-none n)
+
+pub padded-behind : (n : ℕ) (l : List ℤ) → length l ≤ n → padded n (pos 0) l ≡ l ++ replicate (n - length l) (pos 0)
+unfolding padded
+padded-behind n [] h = let e : n - 0 ≡ n = omega arith in rw e (padded-none n)
+padded-behind zero (x ∷ l) h = absurd (omega arith)
+padded-behind (suc n) (x ∷ l) h =
+    let e : suc n - suc (length l) ≡ n - length l = omega arith in
+    rw e (ap (λ (k : List ℤ). x ∷ k) (padded-behind n l (omega arith)))
 
 pub within-padded : (B n : ℕ) (l : List ℤ) → Within B l → Within B (padded n (pos 0) l)
 unfolding padded

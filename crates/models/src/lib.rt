@@ -1,16 +1,16 @@
 // A model's tables by value: what a tester hands in.
 ghost use mathlib.Core.Path.{_≡_};
 ghost use mathlib.Core.Bool.{cond, not, _&&_, _||_};
-ghost use mathlib.Core.List.{[], _∷_, map};
-ghost use Prim.Native.Nat.{_+_, _*_, _^_, _≤_, _<_};
+ghost use mathlib.Core.List.{[], _∷_, _++_, map};
+ghost use Prim.Native.Nat.{_+_, _*_, _^_, _≤_};
 ghost use lib.Dec.{leb, ltb};
-ghost use lib.ListN.{length};
+ghost use lib.ListN.{length, take, drop};
 ghost use lib.IntN.{pos, natAbs};
 ghost use lib.Signed.{leZ};
 ghost use Rattle.integers.specs.Limits.{given-limit};
 ghost use Rattle.integers.specs.Lists.{All, every, from};
 ghost use Rattle.integers.specs.Signs.{isZero};
-ghost use Rattle.rows.specs.Rows.{row-numbers, set-rows, set-numbers, at, holds-at, Small, Within, with-row};
+ghost use Rattle.rows.specs.Rows.{entry-count, row-numbers, set-rows, set-numbers, at, holds-at, Small, Within, with-row};
 ghost use Rattle.sets.specs.declared.Outcome.{Outcome};
 ghost use Rattle.sets.specs.declared.Refusal.{Refusal};
 ghost use Rattle.sets.specs.Stores.{with-rows};
@@ -313,7 +313,7 @@ fn held(count: usize) -> usize
 
 // The row written as row k of a store if it is wanted; answers how many rows then stand there.
 fn put_if(wanted: bool, row: Row, to: &mut [i32], k: usize) -> usize
-    requires { ⌜ (k < set-rows) × (set-numbers ≤ length (now to)) ⌝ }
+    requires { ⌜ (k + cond wanted 1 0 ≤ set-rows) × (set-numbers ≤ length (now to)) ⌝ }
     ensures { λ r. ⌜ (r ≡ cond wanted (k + 1) k) × (now (to .exit) ≡ cond wanted (with-row (now (to .entry)) (k * row-numbers) row) (now (to .entry))) ⌝ }
 {
     if wanted {
@@ -420,17 +420,17 @@ impl Model {
         }
     }
 
-    // Inner step: the rows of an owner in table order, to the front of a store that takes any set; answers how many.
-    pub fn rows_of(self, kind: u8, owner: u8, to: &mut [i32]) -> usize
-        requires { ⌜ set-numbers ≤ length (now to) ⌝ }
-        ensures { λ r. ⌜ (r ≡ length (rows-of self kind owner)) × (now (to .exit) ≡ with-rows (rows-of self kind owner) (now (to .entry))) ⌝ }
+    // Inner step: the rows of an owner in table order, written from row `first` of a store on that takes any set; answers how many.
+    pub fn rows_from(self, kind: u8, owner: u8, to: &mut [i32], first: usize) -> usize
+        requires { ⌜ (first + length (rows-of self kind owner) ≤ set-rows) × (set-numbers ≤ length (now to)) ⌝ }
+        ensures { λ r. ⌜ (r ≡ length (rows-of self kind owner)) × All (λ x. length (x .entries) ≡ entry-count) (rows-of self kind owner) × (now (to .exit) ≡ take (first * row-numbers) (now (to .entry)) ++ with-rows (rows-of self kind owner) (drop (first * row-numbers) (now (to .entry)))) ⌝ }
     {
         let n = held(self.count);
-        let mut k: usize = 0;
+        let mut k: usize = first;
         for i in 0..n {
             let r = self.rows[i];
             k = put_if(r.is_of(kind, owner), r.row(), to, k);
         }
-        k
+        k - first
     }
 }

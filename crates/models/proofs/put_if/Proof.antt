@@ -11,7 +11,7 @@ pub put-if-spec : {M : Type 1} → statement M
 put-if-spec =
     tie.close (tie.spec
     (λ c. search needs)
-    (λ c κs. search needs)
+    (λ c κs. let few = rw (c .before .if1 .taken) at (c .before .before .pre .0) in search needs)
     (λ c. search needs)
     (λ c. search needs) returns
     (λ c. search needs))
