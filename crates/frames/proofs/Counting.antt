@@ -18,16 +18,8 @@ use Rattle.integers.proofs.Bounds.{bits-zero, zero-bits}
 use Rattle.integers.proofs.Loops.{every-stops, every-turn, every-done}
 use Rattle.integers.proofs.Tests.{and-left, and-right}
 use Rattle.rows.specs.Rows.{with-entry}
-use Rattle.models.proofs.Setting.{length-from}
+use Rattle.models.proofs.Setting.{length-from, from-at}
 use Rattle.frames.specs.Reading.{term-entry, term-coefficient, entries-of}
-
-from-at : (a n i : ℕ) → i < n → getD (from a n) i 0 ≡ a + i
-from-at a zero i h = absurd (omega arith)
-from-at a (suc n) zero h = omega arith
-from-at a (suc n) (suc i) h = from-at (suc a) n i (omega arith) ∙ step a i
-  where
-    step : (a i : ℕ) → suc a + i ≡ a + suc i
-    step a i = omega arith
 
 module _ (f : ℕ → Bool) (n i : ℕ) where
   here : i < n → f (getD (from 0 n) i 0) ≡ f i

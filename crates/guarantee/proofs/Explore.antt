@@ -23,7 +23,8 @@ use Rattle.method.specs.Method.{State, Due, leaving, Limits, Attempt, on, start
 use Rattle.method.proofs.Form.{Formed, none-formed, joined-formed}
 use Rattle.method.proofs.Tests.{broken-all, broken-breaks, none-broken, negation-clash}
 use Rattle.method.proofs.Steps.{Keeping, beginning, Verdict, has-false, ruled-out, refines, is-known, keeps, advancing}
-use Rattle.method.proofs.Loop.{due, leaving-in, leaving-all}
+use Rattle.method.specs.Due.{due}
+use Rattle.method.proofs.Loop.{leaving-in, leaving-all}
 use Rattle.guarantee.proofs.Common.{reference-is, at-zero, waited}
 use Rattle.guarantee.proofs.Points.{agree-meets, zero-point, dot-at-zero, reference-invariant, waited-point, waited-low, still}
 use Rattle.guarantee.proofs.Scope.{joined-names, start-names, successor-names, shadow-names}

@@ -5,7 +5,7 @@ use mathlib.Core.Bool.{Bool, _&&_}
 use mathlib.Core.List.{List, [], _∷_, _++_, map}
 use Prim.Native.Nat.{ℕ, zero, suc, _+_, _-_, _<_, _≤_, zero-le}
 use native.Mathlib.Omega.{arith}
-use lib.ListN.{length, replicate, length-map, List·getD-eq-default}
+use lib.ListN.{length, getD, replicate, length-map, List·getD-eq-default}
 use lib.IntN.{ℤ, pos, _+ℤ_, _*ℤ_, *ℤ-zero}
 use native.Mathlib.Decide.{ℕ-discrete}
 use Rattle.integers.specs.Lists.{All, nil, cons, In, here, there, every, from}
@@ -18,6 +18,14 @@ use Rattle.models.specs.Automaton.{bit, reset-entries, padded}
 pub length-from : (a n : ℕ) → length (from a n) ≡ n
 length-from a zero = refl
 length-from a (suc n) = ap suc (length-from (suc a) n)
+
+pub from-at : (a n i : ℕ) → i < n → getD (from a n) i 0 ≡ a + i
+from-at a zero i h = absurd (omega arith)
+from-at a (suc n) zero h = omega arith
+from-at a (suc n) (suc i) h = from-at (suc a) n i (omega arith) ∙ step a i
+  where
+    step : (a i : ℕ) → suc a + i ≡ a + suc i
+    step a i = omega arith
 
 pub from-within : (a n : ℕ) → All (λ c. (a ≤ c) × (c < a + n)) (from a n)
 from-within a zero = nil
