@@ -1,6 +1,7 @@
 //! Sets of divided rows: sorted, each row once, at most 128.
 
 use crate::row::{Fate, Row};
+use std::cell::Cell;
 
 pub const MOST: usize = 128;
 
@@ -18,6 +19,24 @@ impl Fault {
             Fault::TooMany => 10,
         }
     }
+}
+
+thread_local! {
+    /// Rows of the largest set and the largest entry met since the last look, in refused
+    /// sets too.
+    static LARGEST: Cell<(usize, i128)> = const { Cell::new((0, 0)) };
+}
+
+/// Reads the marks and begins anew.
+pub fn take_largest() -> (usize, i128) {
+    LARGEST.replace((0, 0))
+}
+
+fn mark(rows: &[Row]) {
+    let entries = rows.iter().flat_map(|row| &row.entries);
+    let entry = entries.fold(0, |most, entry| entry.abs().max(most));
+    let (most_rows, most_entry) = LARGEST.get();
+    LARGEST.set((most_rows.max(rows.len()), most_entry.max(entry)));
 }
 
 #[derive(Clone, Debug, Default, PartialEq, Eq)]
@@ -40,6 +59,7 @@ impl Set {
         }
         kept.sort();
         kept.dedup();
+        mark(&kept);
         if kept.len() > MOST {
             return Err(Fault::TooMany);
         }
