@@ -1,6 +1,7 @@
 #!/usr/bin/env python3
 # Prints crates/zimbralosa/proofs/{inverse,from_tables,from_hex}/Proof.antt, the walks of the functions above `explore`. Run: python3 tools/walks/entries.py
 # When a parameter or a local is added, or a callee's contract changes, compare the numbers below with `rt mir zimbralosa` and print again.
+import os
 from walk import Text, Context, lst, locals_names, nest, nest_type, sel, sub, the_row, the_word, typed
 
 NAMES = ['first', 'second', 'rows', 'result']
@@ -15,6 +16,8 @@ OF = {s: 'ℤ' for s in N}
 OF[R] = 'Record'
 LENT = '(lent %s)' % ' '.join('ys' + s for s in ALL)
 TUPLE = ['RefT (List %s)' % OF[s] for s in ALL]
+COUNTS = sub(S + 2)             # the counts that an exported function writes
+ROW[COUNTS], OF[COUNTS] = 'u64', 'ℕ'
 
 IMPORTS = '''use mathlib.Core.Path.{%(path)s}
 use Prim.Native.Nat.{ℕ, %(nat)s_<_, _^_}
@@ -61,28 +64,37 @@ use Rattle.attempts.specs.declared.Answer.{Answer}
 
 
 class Entry:
-    # what the three walks share. `head`: the first parameter, as (the module of its type, its type, its name); or None, where it is `input: &[u8]`
-    def __init__(self, fn, head, count):
-        self.fn, self.head, self.count = fn, head, count
+    # what the walks share. `head`: the first parameter, as (the module of its type, its type, its name); or None, where it is `input: &[u8]`.
+    # `before` and `after`: the lent slices before and behind the number m. `inner`: the module of the function. `answer`: whether it returns one, or a number
+    def __init__(self, fn, head, count, before=ALL, after=(), inner='', answer=True):
+        self.fn, self.head, self.count, self.inner, self.answer = fn, head, count, inner, answer
+        self.before, self.after, self.slices = list(before), list(after), list(before) + list(after)
         self.dash = fn.replace('_', '-')
+        self.symbol = 'zimbralosa·' + (inner + '·' if inner else '') + self.dash
         self.text = Text()
         self.w = self.text.w
         self.base = 0 if head else 1     # the number of the first store's lifetime
-        self.NU = ALL if head else [sub(0)] + ALL
+        self.NU = self.slices if head else [sub(0)] + self.slices
         if head:
             kind, self.type, self.x = head
             self.row, self.val, self.arg = kind + '.the-row', '%sv' % self.x, self.x
         else:
             self.type, self.x, self.row, self.val, self.arg = 'RefT (List ℕ)', 'input', 'ShrSlice (named 0) κ₀ u8', 's₀', 'x₀'
         self.KS, self.QS = nest(['κ' + s for s in self.NU]), nest(['q' + s for s in self.NU])
-        self.VALUES = lst([self.val] + ['s' + s for s in ALL] + ['vint w64 m'])
+        self.VALUES = lst([self.val] + self.around('s@', 'vint w64 m'))
         self.GIVEN = ['(' + ' ⊛ '.join(['‵ (flft κ%s q%s)' % (s, s) for s in self.NU] + ['‵ ftrue']) + ')',
-            '‵ (owns (%s ∷ %s ∷ usize ∷ []) a vals)' % (self.row, ' ∷ '.join('MutSlice (named %d) κ%s %s' % (self.base + k, s, ROW[s]) for k, s in enumerate(ALL)))]
+            '‵ (owns (%s) a vals)' % lst([self.row] + self.around('MutSlice (named #) κ@ %', 'usize'))]
         self.slot = 'stay-none (λ _. %s) yes' % self.row if head else 'stay-dropped (shrSliceOf (0 ∷ []) tt (plain (λ _. u8))) yes'
+
+    def around(self, of, m):
+        # a text for each parameter behind the head: `of` with a slice's subscript for @, its lifetime's number for #, its place among the parameters for &, its row for % and its elements' type for $; and `m`
+        each = lambda s, at: of.replace('@', s).replace('#', str(self.base + self.slices.index(s))).replace('&', str(at)).replace('%', ROW[s]).replace('$', OF[s])
+        n = len(self.before)
+        return [each(s, 1 + k) for k, s in enumerate(self.before)] + [m] + [each(s, 2 + n + k) for k, s in enumerate(self.after)]
 
     def stayed(self):
         self.w('abbrev stayed : Stays (f.ended .signature .params) (f.ended .kept)')
-        self.w('stayed = ' + nest([self.slot] + ['gave-slice (%d ∷ []) tt (plain (λ _. %s))' % (self.base + k, ROW[s]) for k, s in enumerate(ALL)] + ['stay-none (λ _. usize) yes']))
+        self.w('stayed = ' + nest([self.slot] + self.around('gave-slice (# ∷ []) tt (plain (λ _. %))', 'stay-none (λ _. usize) yes')))
         self.w()
 
     def module(self):
@@ -92,10 +104,10 @@ class Entry:
             mine, fact = '(%s : %s)' % (self.x, self.type), '(%s-is : Is %s.the-row %s (LL.vals %s.the-type %s′.the-laws %s))' % (self.x, kind, self.x, kind, kind, self.x)
         else:
             mine, fact = '(b₀ o₀ : ℕ) (γ₀ : GName) (input : List ℕ)', '(room₀ : Room u8 (length input))'
-        w('module _ {M : Type 1} (𝓤 : URA M) (H : Heap 𝓤) (A : Atoms 𝓤) (W : Given 𝓤 H A) (at-mem : Memory → SProp 𝓤) (run : Routine → Fun 𝓤) (%s : Lft) (%s : Share) %s %s (m : ℕ)' % (' '.join('κ' + s for s in self.NU), ' '.join('q' + s for s in self.NU), mine, ' '.join('(b@ o@ : ℕ) (γ@ : GName) (ys@ : List %)'.replace('@', s).replace('%', OF[s]) for s in ALL)))
-        w('    (m-fits : m < 2 ^ 64) %s %s where' % (fact, ' '.join('(room%s : Room %s (length ys%s))' % (s, ROW[s], s) for s in ALL)))
+        w('module _ {M : Type 1} (𝓤 : URA M) (H : Heap 𝓤) (A : Atoms 𝓤) (W : Given 𝓤 H A) (at-mem : Memory → SProp 𝓤) (run : Routine → Fun 𝓤) (%s : Lft) (%s : Share) %s %s (m : ℕ)' % (' '.join('κ' + s for s in self.NU), ' '.join('q' + s for s in self.NU), mine, ' '.join('(b@ o@ : ℕ) (γ@ : GName) (ys@ : List %)'.replace('@', s).replace('%', OF[s]) for s in self.slices)))
+        w('    (m-fits : m < 2 ^ 64) %s %s where' % (fact, ' '.join('(room%s : Room %s (length ys%s))' % (s, ROW[s], s) for s in self.slices)))
         w('  -- what the parameters lend, and their machine values')
-        for s in ([] if self.head else ['₀']) + ALL:
+        for s in ([] if self.head else ['₀']) + self.slices:
             of, ys = OF.get(s, 'ℕ'), 'input' if s == '₀' else 'ys' + s
             w('''  abbrev x@ : RefT (List %of)
   x@ = record { ptr = (b@, o@); name = γ@; now = %ys }
@@ -108,46 +120,63 @@ class Entry:
             w('''  abbrev %s : Val
   %s = only (LL.vals %s.the-type %s′.the-laws %s)
 ''' % (self.val, self.val, kind, kind, self.x))
-        w('  abbrev a : ' + nest_type([self.type] + TUPLE + ['ℕ']))
-        w('  a = ' + nest([self.arg] + ['x' + s for s in ALL] + ['m']))
+        w('  abbrev a : ' + nest_type([self.type] + self.around('RefT (List $)', 'ℕ')))
+        w('  a = ' + nest([self.arg] + self.around('x@', 'm')))
         w()
-        w('  abbrev vals : ' + nest_type(['List Val'] * (S + 3)))
-        w('  vals = ' + nest(['%s ∷ []' % self.val] + ['s%s ∷ []' % s for s in ALL] + ['vint w64 m ∷ []']))
+        w('  abbrev vals : ' + nest_type(['List Val'] * (len(self.slices) + 2)))
+        w('  vals = ' + nest(['%s ∷ []' % self.val] + self.around('s@ ∷ []', 'vint w64 m ∷ []')))
         w('''
   abbrev Post : Val → SProp 𝓤
   Post = walkOf 𝓤 H A f.ended stayed (f.clauses 𝓤 H A at-mem run) .post ((%s, %s, tt, a, vals), tt)
 ''' % (self.KS, self.QS))
 
-    def exits(self, run):
-        # at the end: the answer, the last lists of what was lent, the tokens
-        w = self.w
-        ends = '‵ (N.the-row .own r (v ∷ [])) ∷ ' + lst(['‵ (finally %s γ%s zs%s)' % (ROW[s], s, s) for s in ALL] + ['‵ (flft κ%s q%s)' % (s, s) for s in self.NU])
-        zs = ' '.join('zs' + s for s in ALL)
+    def exits(self, run, told='Ran'):
+        # at the end: the answer, the last lists of what was lent, the tokens. `told`: what the function promises of them
+        w, A = self.w, self.slices
+        kind, row = ('Answer', 'N.the-row') if self.answer else ('ℕ', 'u8')
+        ends = '‵ (%s .own r (v ∷ [])) ∷ ' % row + lst(['‵ (finally %s γ%s zs%s)' % (ROW[s], s, s) for s in A] + ['‵ (flft κ%s q%s)' % (s, s) for s in self.NU])
+        zs = ' '.join('zs' + s for s in A)
+        bound = ' '.join('(%s : List %s)' % (' '.join('zs' + s for s in A if OF[s] == of), of) for of in ['ℤ', 'Record', 'ℕ'] if any(OF[s] == of for s in A))
         w('''
-  exits : (r : Answer) (v : Val) (%s : List ℤ) (zs%s : List Record) → Ran (%s) %s r → %s
+  exits : (r : %s) (v : Val) %s → %s (%s) %s%s r → %s
       → ent 𝓤 (⋆ 𝓤 H A (%s)) (Post v)
   exits r v %s e %s =
       qed W (%s) ∵
       suffices ! _ (ends-at 𝓤 H A f.ended stayed (f.clauses 𝓤 H A at-mem run) W ((%s, %s, tt, a, vals), tt) v r %s %s) $
-      says ! e $''' % (' '.join('zs' + s for s in N), R, run, zs, ' → '.join('length zs%s ≡ length ys%s' % (s, s) for s in ALL), ends, zs, ' '.join('l' + s for s in ALL), ends,
-            self.KS, self.QS, nest(['tt'] + ['zs' + s for s in ALL] + ['tt']), nest(['tt'] + ['l' + s for s in ALL] + ['tt'])))
-        cx = Context(self.text, ['R'] + ['F%s' % s for s in ALL] + ['T%s' % s for s in self.NU], '      ')
+      says ! e $''' % (kind, bound, told, run, ''.join('ys%s ' % s for s in self.after), zs, ' → '.join('length zs%s ≡ length ys%s' % (s, s) for s in A), ends, zs, ' '.join('l' + s for s in A), ends,
+            self.KS, self.QS, nest(['tt'] + self.around('zs@', 'tt')), nest(['tt'] + self.around('l@', 'tt'))))
+        cx = Context(self.text, ['R'] + ['F%s' % s for s in A] + ['T%s' % s for s in self.NU], '      ')
         cx.pr('nothing ! $')
         cx.c = ['tr'] + cx.c
         cx.joins(['T%s' % s for s in self.NU], 'tr', 'join')
         cx.pr('frame ! $')
         cx.put(1)
-        cx.pr('nothing ! $ ' + the_word('m', 'm-fits') + ' fjoin ! $')
-        cx.c = ['o'] + cx.c
-        cx.joins(['F%s' % s for s in ALL], 'o', 'fjoin')
+        self.word(cx, 'F')
         cx.pr((the_row(self.head[0], self.x, self.x + '-is') if self.head else 'nothing ! $') + ' fjoin ! $ done !')
+
+    def word(self, cx, of):
+        # what the parameters behind the head own, joined from the last on
+        if self.after:
+            cx.pr('nothing ! $')
+            cx.c = ['o'] + cx.c
+            cx.joins([of + s for s in self.after], 'o', 'fjoin')
+            cx.pr(the_word('m', 'm-fits') + ' fjoin ! $')
+        else:
+            cx.pr('nothing ! $ ' + the_word('m', 'm-fits') + ' fjoin ! $')
+            cx.c = ['o'] + cx.c
+        cx.joins([of + s for s in self.before], 'o', 'fjoin')
 
     def enters(self, cx):
         # the parameters stand in their locals
         cx.pr('pass1 ! (init ! %d refl %s) $' % (cx.L(1), typed(self.head[0], self.x, self.x + '-is') if self.head else '(tt, (tt, (record { fits = room₀ .0 }, tt)))'))
-        for k, s in enumerate(ALL):
+        for k, s in enumerate(self.before):
             cx.pr('pass1 ! (init ! %d refl (tt, (tt, (record { fits = room%s .0 }, tt)))) $' % (cx.L(2 + k), s))
-        cx.pr('pass1 ! (init ! %d refl (tt, record { fits = m-fits })) $ pass0 ! $' % cx.L(S + 3))
+        n = len(self.before)
+        cx.pr('pass1 ! (init ! %d refl (tt, record { fits = m-fits })) $' % cx.L(n + 2) + ('' if self.after else ' pass0 ! $'))
+        for k, s in enumerate(self.after):
+            cx.pr('pass1 ! (init ! %d refl (tt, (tt, (record { fits = room%s .0 }, tt)))) $' % (cx.L(n + 3 + k), s))
+        if self.after:
+            cx.pr('pass0 ! $')
 
     def splits(self, cx):
         # what the parameters own, and the tokens, each by itself
@@ -157,7 +186,14 @@ class Entry:
         else:
             cx.pr('fsplit ! $ move ! (1 ∷ []) $')
             cx.put(1, 'owns', 'm₀')
-        for s in ALL:
+        for s in self.before:
+            cx.front(['owns'])
+            cx.pr('fsplit ! $ move ! (1 ∷ []) $')
+            cx.put(1, 'owns', 'm' + s)
+        if self.after:
+            cx.front(['owns'])
+            cx.pr('fsplit ! $ drop ! $')
+        for s in self.after:
             cx.front(['owns'])
             cx.pr('fsplit ! $ move ! (1 ∷ []) $')
             cx.put(1, 'owns', 'm' + s)
@@ -185,26 +221,32 @@ class Entry:
     def answers(self, cx, forget, by):
         # the answer is returned
         cx.front(['ro'])
-        cx.opens('peeks ! N.the-row (Is N.the-row) (shows 𝓤 H A N.the-row) r (v ∷ []) (λ is.')
-        cx.pr('land ! (from ! (stop !)) (init ! %d refl %s) $ returns ! (look ! %d refl) $' % (cx.L(0), typed('N', 'r', 'is'), cx.L(0)))
+        row = 'N.the-row' if self.answer else 'u8'
+        has = typed('N', 'r', 'is') if self.answer else '(uint-lawful 𝓤 H A W w8 .typed r _ is .0)'
+        cx.opens('peeks ! %s (Is %s) (shows 𝓤 H A %s) r (v ∷ []) (λ is.' % (row, row, row))
+        cx.pr('land ! (from ! (stop !)) (init ! %d refl %s) $ returns ! (look ! %d refl) $' % (cx.L(0), has, cx.L(0)))
         cx.forget(forget)
         cx.free_all(self.count)
-        cx.front(['ro'] + ['fin' + s for s in ALL] + ['t' + s for s in self.NU])
-        assert len(cx.c) == 1 + len(ALL) + len(self.NU), cx.c
+        cx.front(['ro'] + ['fin' + s for s in self.slices] + ['t' + s for s in self.NU])
+        assert len(cx.c) == 1 + len(self.slices) + len(self.NU), cx.c
         cx.pr('by ! (%s)' % by + ')' * cx.close)
 
     def closes(self, needs, triples, known, citations):
         # the function meets its contract. `needs`: how what the function requires is had
         w, fn = self.w, self.dash
         n = len(self.NU)
-        kinds = ['LL.vals %s.the-type %s′.the-laws' % (self.head[0], self.head[0]) if self.head else 'slice-vals'] + ['slice-vals'] * (S + 1) + ['uint-vals w64']
-        tells = ['LL.tells %s.the-type %s′.the-laws' % (self.head[0], self.head[0]) if self.head else 'shr-slice-tells (named 0) (κs .0) u8'] + ['mut-slice-tells (named %d) (%s) %s' % (self.base + k, sel('κs', self.base + k), ROW[s]) for k, s in enumerate(ALL)] + ['uint-tells w64']
+        at = {s: int(k) for s, k in zip(self.slices, [x for x in self.around('&', '') if x])}
+        word = 1 + len(self.before)
+        kinds = ['LL.vals %s.the-type %s′.the-laws' % (self.head[0], self.head[0]) if self.head else 'slice-vals'] + self.around('slice-vals', 'uint-vals w64')
+        tells = ['LL.tells %s.the-type %s′.the-laws' % (self.head[0], self.head[0]) if self.head else 'shr-slice-tells (named 0) (κs .0) u8'] + self.around('mut-slice-tells (named #) (!#!) %', 'uint-tells w64')
+        for k in range(n):
+            tells = [x.replace('!%d!' % k, sel('κs', k)) for x in tells]
         mine = '(a .0)' if self.head else '(a .0 .ptr .0) (a .0 .ptr .1) (a .0 .name) (a .0 .now)'
         fact = '(are .0)' if self.head else '(are .0 .0 .1)'
         call = '(walk 𝓤 H A W at-mem run %s %s %s %s (%s) (%s .1) %s %s 𝓣 fm %s)' % (' '.join('(%s)' % sel('κs', k) for k in range(n)), ' '.join('(%s)' % sel('qs', k) for k in range(n)), mine,
-            ' '.join('(%s .ptr .0) (%s .ptr .1) (%s .name) (%s .now)' % ((sel('a', k + 1),) * 4) for k in range(S + 1)), sel('a', S + 2), sel('are', S + 2), fact, ' '.join('(%s .0 .1)' % sel('are', k + 1) for k in range(S + 1)), known)
+            ' '.join('(%s .ptr .0) (%s .ptr .1) (%s .name) (%s .now)' % ((sel('a', at[s]),) * 4) for s in self.slices), sel('a', word), sel('are', word), fact, ' '.join('(%s .0 .1)' % sel('are', at[s]) for s in self.slices), known)
         goes = ['goes-none 𝓤 H A W %d (λ _. %s) yes (λ κs x f. refl)' % (n, self.row) if self.head else 'goes-dropped 𝓤 H A W %d (shrSliceOf (0 ∷ []) tt (plain (λ _. u8))) yes (λ κs x f. refl)' % n]
-        goes += ['goes-gave-slice 𝓤 H A W %d %d tt (plain (λ _. %s))' % (n, self.base + k, ROW[s]) for k, s in enumerate(ALL)] + ['goes-none 𝓤 H A W %d (λ _. usize) yes (λ κs x f. refl)' % n]
+        goes += self.around('goes-gave-slice 𝓤 H A W %d # tt (plain (λ _. %%))' % n, 'goes-none 𝓤 H A W %d (λ _. usize) yes (λ κs x f. refl)' % n)
         w('''
 module _ {M : Type 1} (𝓤 : URA M) (H : Heap 𝓤) (A : Atoms 𝓤) (W : Given 𝓤 H A) (at-mem : Memory → SProp 𝓤) (run : Routine → Fun 𝓤) where
   %s-walks : (𝓣 : Tables 𝓤 H) → FmC 𝓤 H (W .laws) (𝓣 .C) → %s → Walks 𝓤 H A f.ended stayed (WpFn 𝓤 H (𝓣 .C) (𝓣 .Λ) code.function) (f.clauses 𝓤 H A at-mem run)
@@ -224,13 +266,13 @@ pub %s-spec : {M : Type 1} → stated.statement M
 unfolding code.routine tablesOf
 %s-spec 𝓤 H 𝓜 𝓖 𝓡 =
     entered 𝓤 H (tripleOf 𝓤 H (𝓖 .A) f.signature (f.spec 𝓤 H (𝓖 .A) (𝓜 .mem) (𝓡 .run)))
-    (tables 𝓤 H 𝓜 𝓡 code.env .C) (tables 𝓤 H 𝓜 𝓡 code.env .Λ) #zimbralosa·%s code.function (code.unfolded 𝓤 H 𝓜 𝓡)
+    (tables 𝓤 H 𝓜 𝓡 code.env .C) (tables 𝓤 H 𝓜 𝓡 code.env .Λ) #%s code.function (code.unfolded 𝓤 H 𝓜 𝓡)
     (%s-meets 𝓤 H (𝓖 .A) (givenOf 𝓤 H 𝓜 𝓖) (𝓜 .mem) (𝓡 .run) (tablesOf 𝓤 H 𝓜 (tables 𝓤 H 𝓜 𝓡 code.env))''' % (
             fn, ' → '.join(triples), fn, known, nest(kinds), nest(tells), needs, call,
-            fn, ' → '.join(triples), fn, known, nest(goes), fn, known, fn, fn, fn, fn))
+            fn, ' → '.join(triples), fn, known, nest(goes), fn, known, fn, fn, self.symbol, fn))
         for i, (contract, symbol, mod) in enumerate(citations):
             w('    (cited 𝓤 H (%s 𝓤 H (𝓖 .A) (𝓜 .mem) (𝓡 .run)) 𝓜 𝓡 code.env #%s %s-def.routine code.calls-%s (%s-thm.met 𝓤 H 𝓜 𝓖 𝓡))' % (contract, symbol, mod, symbol, mod) + (')' if i == len(citations) - 1 else ''))
-        self.text.save('crates/zimbralosa/proofs/%s/Proof.antt' % self.fn)
+        self.text.save('crates/zimbralosa/proofs/%s/Proof.antt' % os.path.join(self.inner, self.fn))
 
 
 def callee(w, path, mod, symbol):
@@ -240,11 +282,12 @@ def callee(w, path, mod, symbol):
     w('use %s.Met as %s-thm' % (path, mod))
 
 
-def itself(w, fn):
-    w('use Rattle.zimbralosa.proofs.%s.Key.{name as #zimbralosa·%s}' % (fn, fn.replace('_', '-')))
-    w('use Rattle.zimbralosa.proofs.%s as f' % fn)
-    w('use Rattle.zimbralosa.proofs.%s.Statement as stated' % fn)
-    w('use Rattle.zimbralosa.proofs.%s.Code as code' % fn)
+def itself(w, fn, inner=''):
+    path = 'Rattle.zimbralosa.proofs.%s%s' % (inner + '.' if inner else '', fn)
+    w('use %s.Key.{name as #zimbralosa·%s%s}' % (path, inner + '·' if inner else '', fn.replace('_', '-')))
+    w('use %s as f' % path)
+    w('use %s.Statement as stated' % path)
+    w('use %s.Code as code' % path)
     w()
 
 
@@ -580,6 +623,7 @@ is-made g v is = subst (λ (vs : List Val). Is G.the-row g vs) (LL.tells G.the-t
     e.closes('via 𝓤 _ (fst∗ 𝓤 _ (emp 𝓤))', triples, 'known-make known', [('Make', 'zimbralosa·%s' % maker.replace('_', '-'), 'maker'), ('Inverse', 'zimbralosa·inverse', 'callee')])
 
 
-inverse()
-entry('from_tables', ('Mo', 'Model', 'md'), 'given_tables', 'tables-given', 'tables-sound', 'run-tables', 'tables-run')
-entry('from_hex', None, 'given_hex', 'hex-given', 'hex-sound', 'run-hex', 'hex-run')
+if __name__ == '__main__':
+    inverse()
+    entry('from_tables', ('Mo', 'Model', 'md'), 'given_tables', 'tables-given', 'tables-sound', 'run-tables', 'tables-run')
+    entry('from_hex', None, 'given_hex', 'hex-given', 'hex-sound', 'run-hex', 'hex-run')

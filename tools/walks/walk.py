@@ -1,5 +1,5 @@
 # What the printers of the walks share: names with subscripts, nested tuples, and a context that is kept by name, so that places are computed.
-# Nothing is run from this file; see explore.py, inverse.py and entries.py beside it.
+# Nothing is run from this file; see explore.py, entries.py and outer.py beside it.
 import os
 
 SUB = str.maketrans('0123456789', '₀₁₂₃₄₅₆₇₈₉')

@@ -14,3 +14,4 @@ pub mod Likewise
 pub mod Between
 pub mod Marked
 pub mod Contrast
+pub mod Returned

@@ -1,7 +1,9 @@
 pub mod Again
 pub mod Alloc
 pub mod Big
+pub mod Counts
 pub mod Givens
 pub mod Local
+pub mod Only
 pub mod Over
 pub mod Shared
