@@ -1,4 +1,4 @@
--- The pairs of a removal, row by row: whether one of them is too large, and what comes of joining them to the rows without the variable.
+-- The pairs of a removal, row by row: what comes of joining them to the rows without the variable.
 -- Assumes nothing.
 use mathlib.Core.Path.{_≡_, refl, sym, ap, subst, _∙_}
 use mathlib.Core.Bool.{Bool, true, false, _||_, or-assoc}
@@ -30,7 +30,7 @@ use Rattle.sets.proofs.Parts.{all-at}
 use Rattle.sets.proofs.Stores.{holds-wide, touched-none}
 use Rattle.sets.proofs.Steps.{IsSet, set-in-store, left-progress, left-ready, left-twice, joined-put-all, put-all-large, put-all-proper, put-all-grows, put-all-append, joined-itself, rows-left}
 use Rattle.removal.specs.Removal.{entry, untouched, uppers, lowers, remaining, removed}
-use Rattle.removal.specs.Pairs.{lower-places, pairs-at, is-large, any-large}
+use Rattle.removal.specs.Pairs.{lower-places, pairs-at}
 use Rattle.removal.specs.Alone.{DividedSet}
 use Rattle.removal.proofs.Exact.{apart}
 use Rattle.removal.proofs.Kept.{remaining-keeps}
@@ -45,24 +45,6 @@ module _ (v : ℕ) (r : Row) (rows lows : List Row) where
   pairs-other : isAbove (entry v r) ≡ false → pairs (paired v) (uppers v (r ∷ rows)) lows ≡ pairs (paired v) (uppers v rows) lows
   unfolding uppers filter
   pairs-other e = rw e
-
--- ---- too large
-large-append : (l m : List Row) → any-large (l ++ m) ≡ (any-large l || any-large m)
-unfolding any-large
-large-append [] m = refl
-large-append (r ∷ l) m = ap (λ (b : Bool). is-large (divided-down r .fate) || b) (large-append l m) ∙ sym (or-assoc (is-large (divided-down r .fate)) (any-large l) (any-large m))
-
--- then joining is refused, whatever was there
-pub put-all-refused : (rs : List Row) (x : Result (List Row)) → any-large rs ≡ true → put-all rs x ≡ refused EntryTooLarge
-unfolding put-all any-large
-put-all-refused [] x e = not-both e
-put-all-refused (r ∷ rs) x e = go (divided-down r .fate) e (put-all-refused rs)
-  where
-    go : (f : Fate) → (is-large f || any-large rs) ≡ true → ((y : Result (List Row)) → any-large rs ≡ true → put-all rs y ≡ refused EntryTooLarge) →
-        put-all rs (next f (divided-down r .row) x) ≡ refused EntryTooLarge
-    go Kept e ih = ih _ e
-    go Gone e ih = ih _ e
-    go TooLarge e ih = put-all-large rs
 
 -- ---- the pairs of one row with the rows at the first m places, the next one being place j
 module _ (v : ℕ) (s : List ℤ) (p : ℕ) (places : List ℕ) (m j : ℕ) (room : m ≤ length places) where
@@ -79,18 +61,6 @@ module _ (v : ℕ) (s : List ℤ) (p : ℕ) (places : List ℕ) (m j : ℕ) (roo
   done : m ≤ j → pairs-at v s p (drop j (take m places)) ≡ []
   unfolding pairs-at
   done h = rw (drop-done (take m places) j (rw (length-take-le m places room) h))
-
-  pub large-stops : j < m → is-large (divided-down next-pair .fate) ≡ true → true ≡ any-large (pairs-at v s p (drop j (take m places)))
-  unfolding any-large
-  large-stops h e = rw (turn h, e)
-
-  pub large-turn : j < m → is-large (divided-down next-pair .fate) ≡ false → any-large (pairs-at v s p (drop (j + 1) (take m places))) ≡ any-large (pairs-at v s p (drop j (take m places)))
-  unfolding any-large
-  large-turn h e = rw (turn h, e)
-
-  pub large-done : m ≤ j → false ≡ any-large (pairs-at v s p (drop j (take m places)))
-  unfolding any-large
-  large-done h = rw (done h)
 
   pub put-turn : j < m → (x y : Result (List Row)) → y ≡ next (divided-down next-pair .fate) (divided-down next-pair .row) x →
       put-all (pairs-at v s p (drop (j + 1) (take m places))) y ≡ put-all (pairs-at v s p (drop j (take m places))) x
@@ -113,10 +83,6 @@ module _ (v : ℕ) (s : List ℤ) (n i : ℕ) where
   unfolding rows-at uppers filter pairs
   from-last h = let e : n - i ≡ 0 = omega arith in rw e
 
-  pub all-large-done : n ≤ i → false ≡ any-large (pairs-from v s n i)
-  unfolding any-large
-  all-large-done h = rw (from-last h)
-
   pub put-from-done : n ≤ i → (x : Result (List Row)) → put-all (pairs-from v s n i) x ≡ x
   unfolding put-all
   put-from-done h x = rw (from-last h)
@@ -131,13 +97,6 @@ module _ (v : ℕ) (s : List ℤ) (n i : ℕ) where
   module _ (places : List ℕ) (m : ℕ) (listed : take m places ≡ lower-places v s 0 n) where
     from-turn : i < n → isAbove (entry v (row-at s (i * row-numbers))) ≡ true → pairs-from v s n i ≡ pairs-at v s (i * row-numbers) (take m places) ++ pairs-from v s n (i + 1)
     from-turn h e = rw (rows-turn h, listed, pairs-lowers) (pairs-above v (row-at s (i * row-numbers)) _ (lowers v (set-in s n)) e)
-
-    pub all-large-stops : i < n → isAbove (entry v (row-at s (i * row-numbers))) ≡ true → true ≡ any-large (pairs-at v s (i * row-numbers) (take m places)) → true ≡ any-large (pairs-from v s n i)
-    all-large-stops h e f = rw (from-turn h e, large-append, ← f)
-
-    pub all-large-turn : i < n → isAbove (entry v (row-at s (i * row-numbers))) ≡ true → false ≡ any-large (pairs-at v s (i * row-numbers) (take m places)) →
-        any-large (pairs-from v s n (i + 1)) ≡ any-large (pairs-from v s n i)
-    all-large-turn h e f = rw (from-turn h e, large-append, ← f)
 
     pub put-from-turn : i < n → isAbove (entry v (row-at s (i * row-numbers))) ≡ true → (x y : Result (List Row)) → y ≡ put-all (pairs-at v s (i * row-numbers) (take m places)) x →
         put-all (pairs-from v s n (i + 1)) y ≡ put-all (pairs-from v s n i) x
@@ -158,7 +117,7 @@ removed-joins v s h d =
     sym (joined-put-all (u ++ p) [] zero-le) ∙ put-all-append u p (found []) ∙
     ap (put-all p) (joined-put-all u [] zero-le ∙ joined-itself u (g .0) (apart v s d .zeros) (g .3))
 
--- ---- the step in its stores: refused where a pair is too large, else the pairs join the rows that were written
+-- ---- the step in its stores: the pairs join the rows that were written
 module _ (from to : List ℤ) (n v : ℕ) (holds : DividedSet from n) (long : set-numbers ≤ length to) where
   abbrev rows : List Row
   rows = set-in from n
@@ -168,9 +127,6 @@ module _ (from to : List ℤ) (n v : ℕ) (holds : DividedSet from n) (long : se
 
   joins : removed v rows ≡ put-all all-pairs (found (untouched v rows))
   joins = removed-joins v rows (set-in-store (holds .holds)) (holds .divided)
-
-  pub left-large : true ≡ any-large all-pairs → Left (removed v rows) to to (record { rows = 0; outcome = Refused EntryTooLarge })
-  left-large e = rw (joins, put-all-refused all-pairs (found (untouched v rows)) (sym e)) (record { answer = refl; store = touched-none to })
 
   module _ (k : ℕ) (t : List ℤ) (count : k ≡ length (untouched v rows)) (is : t ≡ with-rows (untouched v rows) to) where
     set : IsSet (untouched v rows)

@@ -1,14 +1,12 @@
 -- Words for the code of one removal: places in a store, and rows that join one by one.
-use mathlib.Core.Bool.{Bool, true, false, cond, _||_}
+use mathlib.Core.Bool.{cond}
 use mathlib.Core.List.{List, [], _∷_, map}
 use Prim.Native.Nat.{ℕ, zero, suc, _+_, _≤_}
 use lib.ListN.{length}
 use lib.IntN.{ℤ}
 use Rattle.integers.specs.Signs.{isBelow}
 use Rattle.rows.specs.declared.Row.{Row}
-use Rattle.rows.specs.declared.Fate.{Fate}
-use Rattle.rows.specs.declared.Fate.the-variants.{Kept, Gone, TooLarge}
-use Rattle.rows.specs.Rows.{row-numbers, Small, divided-down, paired, row-at}
+use Rattle.rows.specs.Rows.{row-numbers, Small, paired, row-at}
 use Rattle.removal.specs.Removal.{entry}
 
 -- the places of the rows below zero, among n rows from an offset
@@ -24,13 +22,3 @@ pairs-at v s p qs = map (λ q. paired v (row-at s p) (row-at s q)) qs
 pub record SmallAt (s : List ℤ) (p : ℕ) : Type 0 where
   pub room : p + row-numbers ≤ length s
   pub small : Small (row-at s p .entries)
-
-abbrev pub is-large : Fate → Bool
-is-large Kept = false
-is-large Gone = false
-is-large TooLarge = true
-
--- one of the rows has an entry too large once it is divided down
-unfoldable pub any-large : List Row → Bool
-any-large [] = false
-any-large (r ∷ rs) = is-large (divided-down r .fate) || any-large rs

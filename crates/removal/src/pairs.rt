@@ -9,15 +9,12 @@ ghost use Rattle.integers.proofs.Whole.{IsPos};
 ghost use Rattle.rows.specs.Rows.{entry-count, row-numbers, set-numbers, divided-down, paired, row-at};
 ghost use Rattle.sets.specs.Stores.{with-rows, set-in, HoldsSet, Left, progress, Ready, put-all};
 ghost use Rattle.removal.specs.Removal.{entry, untouched, uppers, lowers, removed};
-ghost use Rattle.removal.specs.Pairs.{lower-places, pairs-at, SmallAt, is-large, any-large};
+ghost use Rattle.removal.specs.Pairs.{lower-places, pairs-at, SmallAt};
 ghost use Rattle.removal.specs.Alone.{DividedSet};
-use rows::Fate;
 use rows::Row;
 use rows::Set;
 use rows::Settled;
 use sets::Joined;
-use sets::Outcome;
-use sets::Refusal;
 
 // The rows without the variable, at the front of the other store.
 fn untouched(from: &[i32], n: usize, v: usize, to: &mut [i32]) -> usize
@@ -74,45 +71,6 @@ fn pair(from: &[i32], p: usize, q: usize, v: usize) -> Settled
     general_pair(from, p, q, v)
 }
 
-fn is_large(x: Settled) -> bool
-    ensures { λ r. ⌜ r ≡ is-large (x .fate) ⌝ }
-{
-    let fate = x.fate;
-    match fate {
-        Fate::Kept => false,
-        Fate::Gone => false,
-        Fate::TooLarge => true,
-    }
-}
-
-// Whether a pair of one row above zero has an entry too large.
-fn any_large(from: &[i32], p: usize, v: usize, places: &[usize], m: usize) -> bool
-    requires { ⌜ SmallAt (now from) p × IsPos (entry v (row-at (now from) p)) × (v < entry-count) × (m ≤ length (now places)) × All (SmallAt (now from)) (take m (now places)) ⌝ }
-    ensures { λ r. ⌜ r ≡ any-large (pairs-at v (now (from .entry)) p (take m (now (places .entry)))) ⌝ }
-{
-    for j in 0..m {
-        if is_large(pair(from, p, places[j], v)) {
-            return true;
-        }
-    }
-    false
-}
-
-// Whether any pair has.
-fn all_pairs_large(from: &[i32], n: usize, v: usize, places: &[usize], m: usize) -> bool
-    requires { ⌜ HoldsSet (now from) n × (v < entry-count) × (m ≤ length (now places)) × (take m (now places) ≡ lower-places v (now from) 0 n) ⌝ }
-    ensures { λ r. ⌜ r ≡ any-large (pairs (paired v) (uppers v (set-in (now (from .entry)) n)) (lowers v (set-in (now (from .entry)) n))) ⌝ }
-{
-    for i in 0..n {
-        if 0 < from[i * Row::NUMBERS + v] {
-            if any_large(from, i * Row::NUMBERS, v, places, m) {
-                return true;
-            }
-        }
-    }
-    false
-}
-
 // The pairs of one row above zero join the set.
 fn join_with(
     from: &[i32],
@@ -155,16 +113,13 @@ fn join_pairs(
     d
 }
 
-// Inner step: a set without a variable, in another store. Each pair is looked at for 9, and then built to be stored.
+// Inner step: a set without a variable, in another store. Each pair is built once: where the set is too large for more rows, a pair may still be too large itself, so 9 comes before 10.
 pub fn without(from: &[i32], n: usize, v: usize, to: &mut [i32]) -> Joined
     requires { ⌜ DividedSet (now from) n × (0 < v) × (v < entry-count) × (set-numbers ≤ length (now to)) ⌝ }
     ensures { λ r. ⌜ Left (removed v (set-in (now (from .entry)) n)) (now (to .entry)) (now (to .exit)) r ⌝ }
 {
     let mut places = [0usize; Set::ROWS];
     let m = list_lowers(from, n, v, &mut places);
-    if all_pairs_large(from, n, v, &places, m) {
-        return Joined::refused(Refusal::EntryTooLarge);
-    }
     let k = untouched(from, n, v, to);
     join_pairs(from, n, v, &places, m, to, Joined::with(k))
 }
