@@ -4,8 +4,17 @@ use std::io;
 
 /// Command line of a vector program: where the cases and the expected text go.
 pub fn write_files(cases: &[u8], expected: &str) -> io::Result<()> {
-    let names: Vec<String> = std::env::args().skip(1).collect();
-    let [stdin, stdout] = names.as_slice() else {
+    write_named(&words(), cases, expected)
+}
+
+/// The words of the command line.
+pub fn words() -> Vec<String> {
+    std::env::args().skip(1).collect()
+}
+
+/// The same for names that a program has looked at itself.
+pub fn write_named(names: &[String], cases: &[u8], expected: &str) -> io::Result<()> {
+    let [stdin, stdout] = names else {
         let usage = "two arguments: OUT_STDIN OUT_STDOUT";
         return Err(io::Error::new(io::ErrorKind::InvalidInput, usage));
     };

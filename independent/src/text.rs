@@ -18,6 +18,11 @@ pub fn runs(word: &str, numbers: &[i32]) -> String {
 
 /// The lines of one case of the method.
 pub fn method_case(index: usize, answer: &Answer, lent: &Lent) -> String {
+    method_here(index, answer, lent) + &runs("roll", &lent.roll.concat())
+}
+
+/// The same where the roll is the method's own and nobody sees it.
+pub fn method_here(index: usize, answer: &Answer, lent: &Lent) -> String {
     let mut text = format!(
         "case {index} outcome {} states {} attempts {} formed {} rows {}\n",
         answer.outcome,
@@ -30,7 +35,6 @@ pub fn method_case(index: usize, answer: &Answer, lent: &Lent) -> String {
     text += &runs("second", &lent.second);
     text += &runs("rows", &lent.rows);
     text += &runs("result", &lent.result);
-    text += &runs("roll", &lent.roll.concat());
     text
 }
 

@@ -1,18 +1,21 @@
 //! Writes cases for the whole method with lent stores, and the output they must give.
+//! With the third word `here` only those that a roll of the method's own serves.
 
-use independent::bytes::{u16_of, u32_of, write_files};
+use independent::bytes::{u16_of, u32_of, words, write_named};
 use independent::frames::{line, reference_frame, row_frame, written};
 use independent::gen::{damaged, model, Rng, Style};
 use independent::method::Answer;
 use independent::row::NUMBERS;
 use independent::store::{run_bytes, Lengths, Lent, LEAST};
-use independent::text::{method_case, tally};
+use independent::text::{method_case, method_here, tally};
 
 const M9: &str = "0102030302\n0200000001000000040000000200000006\n04000A0101\n04000B0200\n\
 030100000201FFFFFFFF0900000001\n030200000202000000010AFFFFFFFF\n\
 0302010002030000000109FFFFFFFF\n";
 const M10: &str = "0101020201\n02000000010000000000000000\n0400000100\n\
 0302000003000000000101FFFFFFFF0200000001\n03020000030000000001010000000102FFFFFFFF\n";
+/// Records of the method's own roll.
+const OWN: usize = 256;
 const H: &str = "0101010100\n";
 const R: &str = "020000000100000000\n";
 
@@ -83,6 +86,8 @@ impl Case {
 /// Cases and expected text so far.
 #[derive(Default)]
 struct Book {
+    /// Only cases for the method's own roll, and no word of it.
+    here: bool,
     cases: Vec<u8>,
     expected: String,
     index: usize,
@@ -91,9 +96,13 @@ struct Book {
 
 impl Book {
     fn add(&mut self, case: Case) {
+        if self.here && case.lengths.records != OWN {
+            return;
+        }
         let (answer, lent) = case.run();
         self.cases.extend(case.bytes());
-        self.expected += &method_case(self.index, &answer, &lent);
+        let text = if self.here { method_here } else { method_case };
+        self.expected += &text(self.index, &answer, &lent);
         self.index += 1;
         self.tally[usize::from(answer.outcome)] += 1;
     }
@@ -414,14 +423,22 @@ fn seeded(book: &mut Book) {
 }
 
 fn main() -> std::io::Result<()> {
-    let mut book = Book::default();
+    let mut names = words();
+    let here = names.get(2).is_some_and(|word| word == "here");
+    if here {
+        names.remove(2);
+    }
+    let mut book = Book {
+        here,
+        ..Book::default()
+    };
     for part in [marked, short_stores, refusals, too_many, too_large, walks] {
         part(&mut book);
     }
     let by_hand = book.index;
     seeded(&mut book);
     book.cases.extend([0xFF; 4]);
-    write_files(&book.cases, &book.expected)?;
+    write_named(&names, &book.cases, &book.expected)?;
     println!(
         "{} cases ({by_hand} by hand): {}",
         book.index,
