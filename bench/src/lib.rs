@@ -1,5 +1,7 @@
 //! The rules in plain Rust, and what is needed to measure the library beside them.
 
+#![forbid(unsafe_code)]
+
 pub mod compare;
 pub mod engines;
 pub mod families;
@@ -7,7 +9,6 @@ pub mod growth;
 #[cfg(feature = "library")]
 pub mod library;
 pub mod measure;
-#[forbid(unsafe_code)]
 pub mod plain;
 pub mod plot;
 pub mod stores;

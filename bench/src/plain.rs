@@ -14,8 +14,12 @@ use search::{Own, Search};
 use set::MOST;
 use work::Work;
 
+// One type for both where the library is built in, so that no roll is copied.
+#[cfg(feature = "library")]
+pub use zimbralosa::Record;
+
 /// A kept state: its location, the place of its first row, its number of rows.
-#[repr(C)]
+#[cfg(not(feature = "library"))]
 #[derive(Clone, Copy, Debug, Default, PartialEq, Eq)]
 pub struct Record {
     pub location: usize,

@@ -8,8 +8,9 @@ pub struct Rng(u64);
 
 impl Rng {
     pub fn new(seed: u64) -> Rng {
-        // A seed of 0 would stay 0 for ever.
-        Rng(seed ^ 0x9E37_79B9_7F4A_7C15 | 1)
+        // Each seed has a state of its own; the state 0 would stay 0 for ever.
+        let state = seed ^ 0x9E37_79B9_7F4A_7C14;
+        Rng(if state == 0 { 1 } else { state })
     }
 
     pub fn draw(&mut self) -> u64 {
@@ -222,4 +223,17 @@ fn shuffled(rng: &mut Rng, text: &str, exchange: bool) -> Vec<u8> {
         lines.insert(b, lines[a]);
     }
     lines.concat().into_bytes()
+}
+
+#[cfg(test)]
+mod tests {
+    use super::*;
+
+    #[test]
+    fn every_seed_has_its_own_stream() {
+        let mut firsts: Vec<u64> = (0..100).map(|seed| Rng::new(seed).draw()).collect();
+        firsts.sort();
+        firsts.dedup();
+        assert_eq!(firsts.len(), 100);
+    }
 }

@@ -4,6 +4,7 @@
 //! the lent stores appear only in `store`, which says what each must hold at the end.
 
 pub mod bytes;
+pub mod calls;
 pub mod compare;
 pub mod explore;
 pub mod frames;
