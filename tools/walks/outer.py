@@ -80,6 +80,7 @@ def here():
     w('''use Rattle.method.specs.Entry.{Run, empty-record, run-hex}
 use Rattle.zimbralosa.specs.Entries.{lent, Ran, own-roll, RanHere}
 use Rattle.zimbralosa.proofs.Alloc.{block-of, alloc-all}
+use Rattle.zimbralosa.proofs.Clearing.{empty-is}
 use Rattle.zimbralosa.proofs.Local.{lends-array, array-gone}''')
     w(STRUCTS + '\nuse Rattle.method.proofs.Record.Laws as T′')
     callee(w, 'Rattle.zimbralosa.proofs.from_hex', 'callee', HEX)
@@ -102,10 +103,6 @@ rv = arrayVal (replicate %d (T′.lowered empty-record))
 rv-is : arrayVal (replicate %d (T′.lowered empty-record)) ≡ rv
 unfolding rv
 rv-is = refl
-
--- the record of zeros has its type
-none-is : Is T.the-row empty-record (T′.lowered empty-record ∷ [])
-none-is = LL.owes T.the-type T′.the-laws empty-record ((refl, lit< tt), ((refl, lit< tt), ((refl, lit< tt), tt)))
 
 -- the roll is gone
 here : {R : Run} {a b s q : List ℤ} {l : List Record} {r : Answer} → Ran R a b s q l r → RanHere R a b s q r
@@ -144,9 +141,9 @@ here h = record { answer = h .answer; first = h .first; second = h .second; rows
     e.exits(run, told='RanHere')
     cx = begins(e, 'known')
     arr, ty, b = 'Array T.the-row %d' % RECORDS, '(tyArray T′.mir %d)' % RECORDS, '(block-of %d bs)' % roll
-    cx.pr('assigns ! (agg ! (and-then ! (lit ! tt) (and-then ! (lit ! tt) (and-then ! (lit ! tt) (no-more !))))) (from ! (stop !)) (init ! %d refl (LL.lawful T.the-type T′.the-laws 𝓤 H A W .typed empty-record _ none-is .0)) $' % cx.L(roll + 1))
+    cx.pr('assigns ! (agg ! (and-then ! (lit ! tt) (and-then ! (lit ! tt) (and-then ! (lit ! tt) (no-more !))))) (from ! (stop !)) (init ! %d refl (LL.lawful T.the-type T′.the-laws 𝓤 H A W .typed empty-record _ empty-is .0)) $' % cx.L(roll + 1))
     cx.pr('-- the roll: what it owns, and the array')
-    cx.pr('owned ! T.the-row (Is T.the-row) (LL.makes T.the-type T′.the-plain 𝓤 H A) empty-record (T′.lowered empty-record ∷ []) none-is $')
+    cx.pr('owned ! T.the-row (Is T.the-row) (LL.makes T.the-type T′.the-plain 𝓤 H A) empty-record (T′.lowered empty-record ∷ []) empty-is $')
     cx.c = ['own'] + cx.c
     av = 'arrayVal (replicate %d (T′.lowered empty-record))' % RECORDS
     cx.pr('use1 W (‵ (%s .own (replicate %d empty-record) (%s ∷ []))) (array-repeat 𝓤 H A W T.the-row (LL.copy T.the-type T′.the-copy 𝓤 H A W) %d empty-record (T′.lowered empty-record)) $' % (arr, RECORDS, av, RECORDS))

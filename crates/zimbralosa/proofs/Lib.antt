@@ -1,6 +1,7 @@
 pub mod Again
 pub mod Alloc
 pub mod Big
+pub mod Clearing
 pub mod Counts
 pub mod Givens
 pub mod Local
