@@ -1,19 +1,19 @@
 -- What the code needs of entries in 64 bits: sums of products and quotients stay within bounds, and a computed test gives the limit. Assumes nothing.
-use mathlib.Core.Path.{_≡_, refl, sym, ap, ap₂, _∙_}
-use mathlib.Core.Bool.{Bool, true, _&&_}
+use mathlib.Core.Path.{_≡_, refl, sym, ap₂, _∙_}
+use mathlib.Core.Bool.{Bool, true, not, _&&_, _||_}
 use mathlib.Core.List.{List, [], _∷_}
 use Prim.Native.Nat.{ℕ, zero, suc, _≤_, _<_, zero-le}
 use borrow.Author.Tests.{leb-true}
 use lib.Dec.{leb, leb·suc-suc}
 use lib.ListN.{length}
 use lib.IntN.{ℤ, pos, negsuc, negℤ, natAbs, _+ℤ_, _*ℤ_}
-use lib.Signed.{leZ}
+use lib.Signed.{leZ, ltZ}
 use Rattle.integers.specs.Gcd.{gcd}
 use Rattle.integers.specs.Limits.{entry-limit}
 use Rattle.integers.specs.Lists.{every}
 use Rattle.integers.proofs.Euclid.{gcd-le}
 use Rattle.integers.proofs.Loops.{front, front-all}
-use Rattle.integers.proofs.Tests.{and-left, and-right, and-all, and-mixed}
+use Rattle.integers.proofs.Tests.{and-left, and-right, and-all, not-or, leZ-not-ltZ}
 use Rattle.integers.proofs.Whole.{zed, of-pos}
 use Rattle.entries.specs.Entries.{at, Within, Small, gcd-from, or-one, divisor, all-small, plus, times}
 use Rattle.entries.proofs.Common.{divisor-pos}
@@ -43,14 +43,12 @@ small-of (z ∷ l) e zero = leb-true _ _ (and-left (leb (natAbs z) entry-limit) 
 small-of (z ∷ l) e (suc i) = small-of l (and-right (leb (natAbs z) entry-limit) (every (λ z. leb (natAbs z) entry-limit) l) e) i
 
 -- the limit above and below, apart
-one-small : (z : ℤ) → leb (natAbs z) entry-limit ≡ (leZ z (pos entry-limit) && leZ (negℤ (pos entry-limit)) z)
-one-small (pos n) = and-all (leb n entry-limit) true refl
-one-small (negsuc n) = leb·suc-suc n 999999999
+between : (z : ℤ) → leb (natAbs z) entry-limit ≡ (leZ z (pos entry-limit) && leZ (negℤ (pos entry-limit)) z)
+between (pos n) = and-all (leb n entry-limit) true refl
+between (negsuc n) = leb·suc-suc n 999999999
 
-pub all-small-both : (l : List ℤ) → all-small l ≡ (every (λ z. leZ z (pos entry-limit)) l && every (λ z. leZ (negℤ (pos entry-limit)) z) l)
-unfolding all-small every
-all-small-both [] = refl
-all-small-both (z ∷ l) = ap₂ {C = Bool} (λ (a b : Bool). a && b) (one-small z) (all-small-both l) ∙ and-mixed (leZ z (pos entry-limit)) (leZ (negℤ (pos entry-limit)) z) _ _
+pub one-small : (z : ℤ) → leb (natAbs z) entry-limit ≡ not (ltZ (pos entry-limit) z || ltZ z (negℤ (pos entry-limit)))
+one-small z = between z ∙ ap₂ {C = Bool} (λ a b. a && b) (leZ-not-ltZ (pos entry-limit) z) (leZ-not-ltZ z (negℤ (pos entry-limit))) ∙ sym (not-or (ltZ (pos entry-limit) z) (ltZ z (negℤ (pos entry-limit))))
 
 -- ---- a pair, as a loop makes it entry by entry
 module _ (x y : List ℤ) (a b : ℤ) where

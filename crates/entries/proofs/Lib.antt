@@ -1,3 +1,4 @@
 pub mod Sums
 pub mod Common
 pub mod Fits
+pub mod Nonzero

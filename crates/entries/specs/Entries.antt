@@ -1,10 +1,10 @@
 -- The entries of a row as a list of whole numbers (rules, "Rows and sets"), of any length; the code's have 16.
-use mathlib.Core.Bool.{Bool, not}
+use mathlib.Core.Bool.{Bool, false, cond, _||_}
 use mathlib.Core.List.{List, [], _∷_, map}
 use Prim.Native.Nat.{ℕ, zero, suc, _≤_}
-use lib.Dec.{leb}
+use lib.Dec.{eqb, leb}
 use lib.ListN.{getD}
-use lib.IntN.{ℤ, pos, natAbs, _+ℤ_, _-ℤ_, _*ℤ_}
+use lib.IntN.{ℤ, pos, negsuc, natAbs, _+ℤ_, _*ℤ_}
 use Rattle.integers.specs.Gcd.{gcd}
 use Rattle.integers.specs.Limits.{entry-limit}
 use Rattle.integers.specs.Lists.{every}
@@ -51,8 +51,31 @@ all-small l = every (λ z. leb (natAbs z) entry-limit) l
 unfoldable pub all-zero : List ℤ → Bool
 all-zero l = every isZero l
 
-abbrev pub is-not : ℤ → ℤ → Bool
-is-not x z = not (isZero (z -ℤ x))
+-- two numbers are the same
+abbrev pub same : ℤ → ℤ → Bool
+same (pos m) (pos n) = eqb m n
+same (pos m) (negsuc n) = false
+same (negsuc m) (pos n) = false
+same (negsuc m) (negsuc n) = eqb m n
+
+-- some entry is x
+unfoldable pub has : ℤ → List ℤ → Bool
+has x [] = false
+has x (z ∷ l) = same z x || has x l
+
+-- some entry has magnitude 1
+unfoldable pub has-unit : List ℤ → Bool
+has-unit [] = false
+has-unit (z ∷ l) = eqb (natAbs z) 1 || has-unit l
+
+-- every entry is 0, x or −x
+unfoldable pub is-level : ℤ → List ℤ → Bool
+is-level x l = every (λ z. isZero z || eqb (natAbs z) (natAbs x)) l
+
+-- the first entry that is not 0; 0 where there is none
+unfoldable pub first-nonzero : List ℤ → ℤ
+first-nonzero [] = pos 0
+first-nonzero (z ∷ l) = cond (isZero z) (first-nonzero l) z
 
 -- ---- sums, entry by entry (a shorter list is filled up with zeros), and multiples
 unfoldable pub plus : List ℤ → List ℤ → List ℤ

@@ -1,13 +1,13 @@
 // The sixteen entries of a row, in 32 or 64 bits, one loop a function. Each is an inner step of the rows above.
 ghost use mathlib.Core.Path.{_≡_};
 ghost use mathlib.Core.List.{map};
-ghost use Prim.Native.Nat.{ℕ, _≤_, _<_, _^_};
+ghost use Prim.Native.Nat.{_≤_, _<_, _^_};
 ghost use lib.ListN.{drop};
-ghost use lib.IntN.{ℤ, pos, negℤ, natAbs};
-ghost use lib.Signed.{quotZ, leZ};
+ghost use lib.IntN.{pos, natAbs};
+ghost use lib.Signed.{quotZ};
 ghost use Rattle.integers.specs.Limits.{entry-limit};
-ghost use Rattle.integers.specs.Lists.{every};
-ghost use Rattle.entries.specs.Entries.{Within, Small, gcd-from, divisor, all-small, all-zero, plus, times, is-not};
+ghost use Rattle.integers.specs.Signs.{sign};
+ghost use Rattle.entries.specs.Entries.{Within, Small, gcd-from, divisor, all-small, all-zero, plus, times, has, has-unit, is-level, first-nonzero};
 
 pub const COUNT: usize = 16;
 
@@ -111,46 +111,69 @@ pub fn added(x: [i32; 16], y: [i32; 16]) -> [i32; 16]
     to
 }
 
-// Whether no variable has this entry. There is no way out of this loop and the next two, so that the compiler takes the entries together.
-pub fn none_is(l: [i32; 16], x: i32) -> bool
-    ensures { λ r. ⌜ r ≡ every (is-not x) (drop 1 l) ⌝ }
+// Whether an entry is x. `|` leaves no way out of this loop and the next two, so that the compiler takes the entries together.
+fn has(l: [i32; 16], x: i32) -> bool
+    ensures { λ r. ⌜ r ≡ has x l ⌝ }
 {
-    let mut none = true;
-    for i in 1..16 {
-        if l[i] == x {
-            none = false;
-        }
+    let mut found = false;
+    for i in 0..16 {
+        found = found | (l[i] == x);
     }
-    none
+    found
+}
+
+// Whether an entry is 1 or -1.
+pub fn has_unit(l: [i32; 16]) -> bool
+    ensures { λ r. ⌜ r ≡ has-unit l ⌝ }
+{
+    has(l, 1) | has(l, -1)
 }
 
 // Whether no entry is beyond the limit.
 pub fn within_limit(l: [i32; 16]) -> bool
     ensures { λ r. ⌜ r ≡ all-small l ⌝ }
 {
-    if none_above(l) { none_below(l) } else { false }
+    let mut beyond = false;
+    for i in 0..16 {
+        let x = l[i];
+        beyond = beyond | ((LIMIT < x) | (x < -LIMIT));
+    }
+    !beyond
 }
 
-fn none_above(l: [i32; 16]) -> bool
-    ensures { λ r. ⌜ r ≡ every (λ z. leZ z (pos entry-limit)) l ⌝ }
+// Inner step: whether every entry is 0, x or -x.
+pub fn is_level(l: [i32; 16], x: i32) -> bool
+    requires { ⌜ natAbs x < 2 ^ 31 ⌝ }
+    ensures { λ r. ⌜ r ≡ is-level x l ⌝ }
 {
-    let mut none = true;
+    let y = -x;
+    let mut other = false;
     for i in 0..16 {
-        if LIMIT < l[i] {
-            none = false;
-        }
+        let z = l[i];
+        other = other | ((z != 0) & (z != x) & (z != y));
     }
-    none
+    !other
 }
 
-fn none_below(l: [i32; 16]) -> bool
-    ensures { λ r. ⌜ r ≡ every (λ z. leZ (negℤ (pos entry-limit)) z) l ⌝ }
+// Each entry's sign, as 1, 0 or -1.
+pub fn signs(l: [i32; 16]) -> [i32; 16]
+    ensures { λ r. ⌜ r ≡ map sign l ⌝ }
 {
-    let mut none = true;
+    let mut to = [0i32; 16];
     for i in 0..16 {
-        if l[i] < -LIMIT {
-            none = false;
+        to[i] = integers::sign(l[i]);
+    }
+    to
+}
+
+// The first entry of a variable that is not 0; 0 where there is none.
+pub fn first_variable(l: [i32; 16]) -> i32
+    ensures { λ r. ⌜ r ≡ first-nonzero (drop 1 l) ⌝ }
+{
+    for i in 1..16 {
+        if l[i] != 0 {
+            return l[i];
         }
     }
-    none
+    0
 }

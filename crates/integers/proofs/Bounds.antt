@@ -1,17 +1,19 @@
 -- Laws of ℤ by magnitude: what fits, the sign turned, a sum, a product and a quotient. Over any width. Assumes nothing.
 use mathlib.Core.Path.{_≡_, refl, sym, ap, _∙_, subst}
-use mathlib.Core.Bool.{Bool, true, false, cond}
+use mathlib.Core.Bool.{Bool, true, false, cond, _||_}
+use mathlib.Core.Logic.{_⊎_, inl, inr, ⊎-elim}
 use Prim.Native.Nat.{ℕ, zero, suc, _+_, _*_, _-_, _/_, _^_, _≤_, _<_}
-use native.Mathlib.Nat.{le-refl, le-suc, lt-of-le-of-lt, suc-ne-zero, div-le-self, mul-le-mul}
+use native.Mathlib.Nat.{le-refl, le-suc, lt-of-le-of-lt, suc-inj, suc-ne-zero, div-le-self, mul-le-mul}
 use native.Mathlib.Omega.{arith}
-use borrow.Author.Tests.{ltb-true}
-use lib.Dec.{T, ltb, lit<}
+use borrow.Author.Tests.{ltb-true, eqb-true, eqb-false, eq-eqb}
+use lib.Dec.{T, eqb, ltb, lit<}
 use lib.IntN.{ℤ, pos, negsuc, negℤ, sucℤ, natAbs, subℕ, _+ℤ_, _-ℤ_, _*ℤ_, +ℤ-idl}
 use lib.Signed.{mag, nonNeg, ltZ, quotZ}
 use mir.Syntax.{Width, w8, w16, w32, w64, w128}
 use mir.Val.{SFits, bits, hbits, toZ, ofZ}
 use mir.Facts.{toZ-ofZ}
 use Rattle.integers.specs.Signs.{isZero}
+use Rattle.integers.proofs.Tests.{or-true, or-false, same-test, zero-of}
 
 pub mag-le : (z : ℤ) → mag z ≤ natAbs z
 mag-le (pos n) = le-refl n
@@ -95,6 +97,46 @@ pub zero-bits : (w : Width) (z : ℤ) → (ofZ w z ≡ 0 → ⊥) → isZero z �
 zero-bits w (pos zero) f = absurd (f refl)
 zero-bits w (pos (suc n)) f = refl
 zero-bits w (negsuc n) f = refl
+
+pub zero-test : (w : Width) (z : ℤ) → mag z < 2 ^ hbits w → eqb (ofZ w z) 0 ≡ isZero z
+zero-test w z h = same-test _ _ (λ e. bits-zero w z h (eqb-true _ _ e)) (λ e. rw (zero-of z e))
+
+-- signed numbers that fit are equal where their bits are
+pub bits-same : (w : Width) (z x : ℤ) → mag z < 2 ^ hbits w → mag x < 2 ^ hbits w → ofZ w z ≡ ofZ w x → z ≡ x
+bits-same w z x h k e = sym (back w z h) ∙ ap (toZ w) e ∙ back w x k
+
+same-natAbs : (z x : ℤ) → natAbs z ≡ natAbs x → (z ≡ x) ⊎ (z ≡ negℤ x)
+same-natAbs (pos n) (pos m) e = inl (ap pos e)
+same-natAbs (pos n) (negsuc m) e = inr (ap pos e)
+same-natAbs (negsuc n) (pos zero) e = absurd (suc-ne-zero n e)
+same-natAbs (negsuc n) (pos (suc m)) e = inr (ap negsuc (suc-inj e))
+same-natAbs (negsuc n) (negsuc m) e = inl (ap negsuc (suc-inj e))
+
+-- two tests, `z == x` and `z == -x`, of the magnitude
+pub either-sign : (w : Width) (z x : ℤ) → mag z < 2 ^ hbits w → natAbs x < 2 ^ hbits w → (eqb (ofZ w z) (ofZ w x) || eqb (ofZ w z) (ofZ w (negℤ x))) ≡ eqb (natAbs z) (natAbs x)
+either-sign w z x h k = same-test (p || q) (eqb (natAbs z) (natAbs x)) there back-again
+  where
+    p : Bool
+    p = eqb (ofZ w z) (ofZ w x)
+
+    q : Bool
+    q = eqb (ofZ w z) (ofZ w (negℤ x))
+
+    there : (p || q) ≡ true → eqb (natAbs z) (natAbs x) ≡ true
+    there e =
+        ⊎-elim
+        (λ f. eq-eqb _ _ (ap natAbs (bits-same w z x h (lt-of-le-of-lt (mag-le x) k) (eqb-true _ _ f))))
+        (λ f. eq-eqb _ _ (ap natAbs (bits-same w z (negℤ x) h (lt-of-le-of-lt (mag-le (negℤ x)) (rw natAbs-neg k)) (eqb-true _ _ f)) ∙ natAbs-neg x))
+        (or-true p q e)
+
+    back-again : eqb (natAbs z) (natAbs x) ≡ true → (p || q) ≡ true
+    back-again e = go (p || q) refl
+      where
+        go : (b : Bool) → (p || q) ≡ b → b ≡ true
+        go true f = refl
+        go false f =
+            let g = or-false p q f in
+            ⊎-elim (λ d. absurd (eqb-false _ _ (g .0) (ap (ofZ w) d))) (λ d. absurd (eqb-false _ _ (g .1) (ap (ofZ w) d))) (same-natAbs z x (eqb-true _ _ e))
 
 -- -(z + 1) of a z below 0: it fits, is not negative, and is one less than z's magnitude
 pub up-mag : (z : ℤ) → ltZ z (pos 0) ≡ true → mag (sucℤ z) ≤ mag z

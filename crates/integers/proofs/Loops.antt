@@ -1,7 +1,7 @@
 -- A loop that fills a list from the front, one store a turn: after n turns the list is `front f n o`, whose element i is f i.
 -- `front` is the stores themselves, so a turn is one more `set`. Over any element type. Assumes nothing.
-use mathlib.Core.Path.{_≡_, refl, sym, ap, _∙_}
-use mathlib.Core.Bool.{Bool, true, false, _&&_}
+use mathlib.Core.Path.{_≡_, refl, sym, _∙_}
+use mathlib.Core.Bool.{Bool, true, false, not, _&&_, _||_, and-assoc}
 use mathlib.Core.List.{List, [], _∷_, map}
 use Prim.Native.Nat.{ℕ, zero, suc, _+_, _≤_, _<_}
 use native.Mathlib.Nat.{not-suc-le-zero}
@@ -11,7 +11,7 @@ use native.Mathlib.Numerals.{add-one}
 use lib.ListN.{length, getD, set, drop, length-set, length-map, List·getD-map, drop-of-length-le}
 use lib.Seq.{getD-set-same, getD-set-other, ext-getD, drop-cons}
 use Rattle.integers.specs.Lists.{every}
-use Rattle.integers.proofs.Tests.{and-none, and-all}
+use Rattle.integers.proofs.Tests.{and-all, not-or}
 
 module _ {A : Type 0} where
   pub front : (ℕ → A) → ℕ → List A → List A
@@ -81,13 +81,11 @@ module _ {A : Type 0} (f : A → Bool) (l : List A) (i : ℕ) (d : A) where
   unfolding every
   every-done h = rw (drop-done l i h)
 
--- a loop that tests every element and clears a flag where one fails
-module _ {A : Type 0} (f : A → Bool) (l : List A) (i : ℕ) (d : A) (none : Bool) where
-  pub flag-passed : i < length l → f (getD l i d) ≡ true → (none && every f (drop (i + 1) l)) ≡ (none && every f (drop i l))
-  flag-passed h e = ap (λ (b : Bool). none && b) (every-turn f l i d h e)
+-- a loop that tests every element and sets a flag where one fails
+module _ {A : Type 0} (f : A → Bool) (l : List A) (i : ℕ) (d : A) (failed : Bool) where
+  pub flag-turn : (t : Bool) → i < length l → f (getD l i d) ≡ not t → (not (failed || t) && every f (drop (i + 1) l)) ≡ (not failed && every f (drop i l))
+  unfolding every
+  flag-turn t h e = rw (drop-turn l i d h, e, not-or failed t) (and-assoc (not failed) (not t) (every f (drop (i + 1) l)))
 
-  pub flag-failed : i < length l → f (getD l i d) ≡ false → false ≡ (none && every f (drop i l))
-  flag-failed h e = and-none none _ (sym (every-stops f l i d h e))
-
-  pub flag-done : length l ≤ i → none ≡ (none && every f (drop i l))
-  flag-done h = and-all none _ (sym (every-done f l i d h))
+  pub flag-done : length l ≤ i → not failed ≡ (not failed && every f (drop i l))
+  flag-done h = and-all (not failed) _ (sym (every-done f l i d h))

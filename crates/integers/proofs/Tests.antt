@@ -6,7 +6,7 @@ use Prim.Native.Nat.{ℕ, zero, suc, zero-le}
 use native.Mathlib.Nat.{zero-lt-suc}
 use borrow.Author.Tests.{ltb-true, ltb-false, le-leb, lt-leb, lt-ltb, le-ltb}
 use lib.Dec.{T, leb, ltb}
-use lib.IntN.{ℤ, pos, negsuc, _+ℤ_, _-ℤ_, +ℤ-invr, +ℤ-idl, -ℤ-+ℤ-cancel}
+use lib.IntN.{ℤ, pos, negsuc, _+ℤ_, _-ℤ_, +ℤ-idl, -ℤ-+ℤ-cancel}
 use lib.Signed.{leZ, ltZ}
 use Rattle.integers.specs.Signs.{isZero, isAbove, isBelow}
 
@@ -46,10 +46,6 @@ and-mixed true false true d = refl
 and-mixed true false false d = refl
 and-mixed false b c d = refl
 
-pub and-false : (a b : Bool) → (a && b) ≡ false → (a ≡ false) ⊎ (b ≡ false)
-and-false true b e = inr e
-and-false false b e = inl refl
-
 pub or-true : (a b : Bool) → (a || b) ≡ true → (a ≡ true) ⊎ (b ≡ true)
 or-true true b e = inl refl
 or-true false b e = inr e
@@ -57,6 +53,16 @@ or-true false b e = inr e
 pub or-false : (a b : Bool) → (a || b) ≡ false → (a ≡ false) × (b ≡ false)
 or-false true b e = not-both (sym e)
 or-false false b e = (refl, e)
+
+pub not-or : (a b : Bool) → not (a || b) ≡ (not a && not b)
+not-or true b = refl
+not-or false b = refl
+
+-- two tests that come true together are the same
+pub same-test : (a b : Bool) → (a ≡ true → b ≡ true) → (b ≡ true → a ≡ true) → a ≡ b
+same-test true b f g = sym (f refl)
+same-test false true f g = g refl
+same-test false false f g = refl
 
 -- what a choice came from
 pub split : {A G : Type 0} (b : Bool) (x y z : A) → cond b x y ≡ z → (b ≡ true → x ≡ z → G) → (b ≡ false → y ≡ z → G) → G
@@ -98,12 +104,6 @@ pub below-lt : (z : ℤ) → isBelow z ≡ ltZ z (pos 0)
 below-lt (pos n) = sym (le-ltb n 0 zero-le)
 below-lt (negsuc n) = refl
 
--- a difference tells whether two numbers are the same
-pub same-zero : (x z : ℤ) → z ≡ x → isZero (z -ℤ x) ≡ true
-same-zero x z e = rw (e, +ℤ-invr x)
-
+-- two numbers are the same where their difference is 0
 pub from-difference : (x y : ℤ) → x -ℤ y ≡ pos 0 → x ≡ y
 from-difference x y e = sym (-ℤ-+ℤ-cancel x y) ∙ ap (λ (t : ℤ). t +ℤ y) e ∙ +ℤ-idl y
-
-pub other-zero : (x z : ℤ) → (z ≡ x → ⊥) → isZero (z -ℤ x) ≡ false
-other-zero x z f = false-of (isZero (z -ℤ x)) (λ e. f (from-difference z x (zero-of (z -ℤ x) e)))

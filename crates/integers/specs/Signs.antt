@@ -1,4 +1,4 @@
--- Tests of a whole number's sign.
+-- A whole number's sign, and tests of it.
 use mathlib.Core.Bool.{Bool, true, false}
 use Prim.Native.Nat.{zero, suc}
 use lib.IntN.{ℤ, pos, negsuc}
@@ -16,3 +16,9 @@ isAbove (negsuc n) = false
 abbrev pub isBelow : ℤ → Bool
 isBelow (pos n) = false
 isBelow (negsuc n) = true
+
+-- 1, 0 or −1
+abbrev pub sign : ℤ → ℤ
+sign (pos zero) = pos 0
+sign (pos (suc n)) = pos 1
+sign (negsuc n) = negsuc 0

@@ -1,4 +1,4 @@
-// Signed numbers as the layers above use them: widened and narrowed, turned, their magnitude, their greatest common divisor
+// Signed numbers as the layers above use them: widened and narrowed, turned, their magnitude and sign, their greatest common divisor
 // and exact quotient, and the two sums of products that rows need. Each is an inner step: a `requires` is met by the rows above.
 ghost use mathlib.Core.Path.{_≡_};
 ghost use Prim.Native.Nat.{ℕ, _+_, _*_, _≤_, _<_, _^_};
@@ -6,6 +6,7 @@ ghost use lib.IntN.{ℤ, pos, negℤ, natAbs, _+ℤ_, _*ℤ_};
 ghost use lib.Signed.{quotZ};
 ghost use Rattle.integers.specs.Gcd.{gcd};
 ghost use Rattle.integers.specs.Limits.{entry-limit};
+ghost use Rattle.integers.specs.Signs.{sign};
 
 pub fn wide(x: i32) -> i64
     ensures { λ r. ⌜ r ≡ x ⌝ }
@@ -75,4 +76,13 @@ pub fn plus_product(s: i64, a: i64, b: i64) -> i64
     ensures { λ r. ⌜ r ≡ s +ℤ a *ℤ b ⌝ }
 {
     s + a * b
+}
+
+// 1, 0 or -1.
+pub fn sign(x: i32) -> i32
+    ensures { λ r. ⌜ r ≡ sign x ⌝ }
+{
+    let above = if 0 < x { 1 } else { 0 };
+    let below = if x < 0 { 1 } else { 0 };
+    above - below
 }

@@ -1,3 +1,4 @@
 pub mod Owners
 pub mod Placing
+pub mod Flattening
 pub mod Laying

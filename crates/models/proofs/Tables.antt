@@ -1,28 +1,25 @@
 -- The tables gone through row by row: what the rows so far decide, and the rows of an owner. Assumes nothing.
 use mathlib.Core.Path.{_≡_, refl, sym, ap, _∙_}
 use mathlib.Core.Bool.{Bool, true, false, not, cond, _&&_, _||_}
-use mathlib.Core.List.{List, [], _∷_, _++_, map, map-append, append-assoc, append-nil}
-use Prim.Native.Nat.{ℕ, zero, suc, _+_, _-_, _*_, _≤_, _<_}
+use mathlib.Core.List.{List, [], _∷_, _++_, map, map-append}
+use Prim.Native.Nat.{ℕ, zero, suc, _+_, _≤_, _<_}
 use native.Mathlib.Omega.{arith}
 use native.Mathlib.Numerals.{add-one}
 use borrow.Author.Tests.{leb-true, leb-false}
 use lib.Dec.{leb}
-use lib.ListN.{length, getD, take, drop, length-append, length-drop, length-map, take-append-drop}
-use lib.Seq.{take-all, take-suc, length-take-le, getD-take, take-append-add, drop-append-add}
+use lib.ListN.{length, getD, take, drop, length-map}
+use lib.Seq.{take-all, take-suc, length-take-le, getD-take}
 use lib.IntN.{ℤ, pos}
 use Rattle.integers.specs.Lists.{All, nil, cons, every, filter}
 use Rattle.integers.specs.Signs.{isZero}
-use Rattle.integers.proofs.Lists.{all-append, filter-append}
+use Rattle.integers.proofs.Lists.{filter-append}
 use Rattle.integers.proofs.Loops.{drop-turn, drop-done}
 use Rattle.rows.specs.declared.Row.{Row}
-use Rattle.rows.specs.Rows.{numbers, with-row, row-numbers, set-rows, set-numbers}
-use Rattle.rows.proofs.Dividing.{Wide}
+use Rattle.rows.specs.Rows.{set-rows}
 use Rattle.sets.specs.declared.Refusal.{Refusal}
 use Rattle.sets.specs.declared.Refusal.the-variants.{Undeclared, WrongTerms}
 use Rattle.sets.specs.declared.Outcome.{Outcome}
 use Rattle.sets.specs.declared.Outcome.the-variants.{Found, Refused}
-use Rattle.sets.specs.Stores.{with-rows}
-use Rattle.sets.proofs.Stores.{length-numbers-of, length-with-rows, with-rows-none, with-rows-more}
 use Rattle.models.specs.declared.Header.{Header}
 use Rattle.models.specs.declared.ModelRow.{ModelRow}
 use Rattle.models.specs.Automaton.{row-of, is-of}
@@ -155,91 +152,5 @@ module _ (kind owner : ℕ) where
       go true = refl
       go false = refl
 
-  owned-at : (l : List ModelRow) (i : ℕ) → i < length l → owned kind owner (take (i + 1) l) ≡ owned kind owner (take i l) ++ cond (is-of kind owner (getD l i no-row)) (row-of (getD l i no-row) ∷ []) []
+  pub owned-at : (l : List ModelRow) (i : ℕ) → i < length l → owned kind owner (take (i + 1) l) ≡ owned kind owner (take i l) ++ cond (is-of kind owner (getD l i no-row)) (row-of (getD l i no-row) ∷ []) []
   owned-at l i h = rw (add-one, take-suc l i no-row h) (owned-append (take i l) (getD l i no-row ∷ []) ∙ ap (λ (t : List Row). owned kind owner (take i l) ++ t) (owned-one (getD l i no-row)))
-
-  -- no more in a front of the table than in all of it
-  owned-fewer : (n : ℕ) (l : List ModelRow) → length (owned kind owner (take n l)) ≤ length (owned kind owner l)
-  owned-fewer n l =
-      let e : length (owned kind owner l) ≡ length (owned kind owner (take n l)) + length (owned kind owner (drop n l)) =
-      ap (λ (t : List ModelRow). length (owned kind owner t)) (sym (take-append-drop n l)) ∙ ap length (owned-append (take n l) (drop n l)) ∙
-      length-append (owned kind owner (take n l)) (owned kind owner (drop n l)) in
-      omega arith
-
--- ---- rows written one after the other from a number of the store on
-with-row-behind : (p u : List ℤ) (j : ℕ) (r : Row) → with-row (p ++ u) (length p + j) r ≡ p ++ with-row u j r
-with-row-behind p u j r =
-    let e : length p + j + row-numbers ≡ length p + (j + row-numbers) = omega arith in
-    rw (e, take-append-add p u j, drop-append-add p u (j + row-numbers), append-assoc p (take j u) (numbers r), append-assoc p (take j u ++ numbers r) (drop (j + row-numbers) u))
-
-module _ (rs : List Row) (s : List ℤ) (b : ℕ) (h : b ≤ length s) (a : All Wide rs) where
-  pub written-length : b + length rs * row-numbers ≤ length s → length (take b s ++ with-rows rs (drop b s)) ≡ length s
-  written-length k =
-      let n = length-numbers-of a in
-      omega (arith, length-append (take b s) (with-rows rs (drop b s)), length-take-le b s h, length-drop b s, length-with-rows rs (drop b s) (rw (length-drop, n) (omega arith)))
-
-  written-more : (r : Row) → Wide r → with-row (take b s ++ with-rows rs (drop b s)) (b + length rs * row-numbers) r ≡ take b s ++ with-rows (rs ++ r ∷ []) (drop b s)
-  written-more r w =
-      ap (λ (n : ℕ). with-row (take b s ++ with-rows rs (drop b s)) (n + length rs * row-numbers) r) (sym (length-take-le b s h)) ∙
-      with-row-behind (take b s) (with-rows rs (drop b s)) (length rs * row-numbers) r ∙
-      ap (λ (l : List ℤ). take b s ++ l) (with-rows-more rs r (drop b s) a w)
-
--- after i rows of the table: row k of the store is next, and the store s has become t
-pub record Wrote (kind owner first : ℕ) (l : List ModelRow) (s : List ℤ) (i k : ℕ) (t : List ℤ) : Type 0 where
-  pub long : length t ≡ length s
-  pub count : k ≡ first + length (owned kind owner (take i l))
-  pub sizes : All Wide (owned kind owner (take i l))
-  pub store : t ≡ take (first * row-numbers) s ++ with-rows (owned kind owner (take i l)) (drop (first * row-numbers) s)
-
-module _ (kind owner first : ℕ) (l : List ModelRow) (s : List ℤ) where
-  pub wrote-none : Wrote kind owner first l s 0 first s
-  unfolding filter
-  wrote-none = record { long = refl; count = omega arith; sizes = nil; store = sym (ap (λ (u : List ℤ). take (first * row-numbers) s ++ u) (with-rows-none (drop (first * row-numbers) s)) ∙ take-append-drop (first * row-numbers) s) }
-
-  module _ (i k : ℕ) (t : List ℤ) (w : Wrote kind owner first l s i k t) where
-    -- row i of the table, and the owner's rows before it
-    abbrev x : Row
-    x = row-of (getD l i no-row)
-
-    abbrev rs : List Row
-    rs = owned kind owner (take i l)
-
-    counted : (b : Bool) → length (cond b (x ∷ []) []) ≡ cond b 1 0
-    counted true = refl
-    counted false = refl
-
-    pub wrote-room : i < length l → first + length (owned kind owner l) ≤ set-rows → k + cond (is-of kind owner (getD l i no-row)) 1 0 ≤ set-rows
-    wrote-room h room =
-        let e : length (owned kind owner (take (i + 1) l)) ≡ length rs + cond (is-of kind owner (getD l i no-row)) 1 0 =
-        ap length (owned-at kind owner l i h) ∙ length-append rs _ ∙ ap (λ (n : ℕ). length rs + n) (counted (is-of kind owner (getD l i no-row))) in
-        omega (arith, e, owned-fewer kind owner (i + 1) l, w .count)
-
-    turn : (k′ : ℕ) (t′ : List ℤ) → Wide x → set-numbers ≤ length s → (b : Bool) → k + cond b 1 0 ≤ set-rows →
-        owned kind owner (take (i + 1) l) ≡ rs ++ cond b (x ∷ []) [] → k′ ≡ cond b (k + 1) k → t′ ≡ cond b (with-row t (k * row-numbers) x) t → Wrote kind owner first l s (i + 1) k′ t′
-    turn k′ t′ z long true room e a b =
-        let all : All Wide (rs ++ (x ∷ [])) = all-append rs (x ∷ []) .1 (w .sizes, cons z nil) in
-        let begin : first * row-numbers ≤ length s = omega (arith, w .count) in
-        let place : k * row-numbers ≡ first * row-numbers + length rs * row-numbers = omega (arith, w .count) in
-        let more : t′ ≡ take (first * row-numbers) s ++ with-rows (rs ++ (x ∷ [])) (drop (first * row-numbers) s) = rw (b, w .store, place) (written-more rs s (first * row-numbers) begin (w .sizes) x z) in
-        let n : length (rs ++ (x ∷ [])) ≡ length rs + 1 = length-append rs (x ∷ []) in
-        record {
-          long = ap length more ∙ written-length (rs ++ (x ∷ [])) s (first * row-numbers) begin all (omega (arith, n, w .count));
-          count = rw (e, n) (omega (arith, w .count));
-          sizes = rw e all;
-          store = rw e more;
-        }
-    turn k′ t′ z long false room e a b =
-        let f : owned kind owner (take (i + 1) l) ≡ rs = e ∙ append-nil rs in
-        record { long = ap length b ∙ w .long; count = rw f (a ∙ w .count); sizes = rw f (w .sizes); store = rw f (b ∙ w .store) }
-
-    pub wrote-more : (k′ : ℕ) (t′ : List ℤ) → i < length l → Wide x → set-numbers ≤ length s → first + length (owned kind owner l) ≤ set-rows →
-        k′ ≡ cond (is-of kind owner (getD l i no-row)) (k + 1) k →
-        t′ ≡ cond (is-of kind owner (getD l i no-row)) (with-row t (k * row-numbers) x) t →
-        Wrote kind owner first l s (i + 1) k′ t′
-    wrote-more k′ t′ h z long room = turn k′ t′ z long (is-of kind owner (getD l i no-row)) (wrote-room h room) (owned-at kind owner l i h)
-
-    pub wrote-all : length l ≤ i → (k - first ≡ length (owned kind owner l)) × All Wide (owned kind owner l) ×
-        (t ≡ take (first * row-numbers) s ++ with-rows (owned kind owner l) (drop (first * row-numbers) s))
-    wrote-all h =
-        let n : k - first ≡ length rs = omega (arith, w .count) in
-        (rw (take-all i l h) at n, rw (take-all i l h) at (w .sizes), rw (take-all i l h) at (w .store))

@@ -1,19 +1,17 @@
 // A model's tables by value: what a tester hands in.
 ghost use mathlib.Core.Path.{_≡_};
 ghost use mathlib.Core.Bool.{cond, not, _&&_, _||_};
-ghost use mathlib.Core.List.{[], _∷_, _++_, map};
-ghost use Prim.Native.Nat.{_+_, _*_, _^_, _≤_};
+ghost use mathlib.Core.List.{[], _∷_, map};
+ghost use Prim.Native.Nat.{_^_, _≤_};
 ghost use lib.Dec.{leb, ltb};
-ghost use lib.ListN.{length, take, drop};
 ghost use lib.IntN.{pos, natAbs};
 ghost use lib.Signed.{leZ};
 ghost use Rattle.integers.specs.Limits.{given-limit};
 ghost use Rattle.integers.specs.Lists.{All, every, from};
 ghost use Rattle.integers.specs.Signs.{isZero};
-ghost use Rattle.rows.specs.Rows.{entry-count, row-numbers, set-rows, set-numbers, at, holds-at, Small, Within, with-row};
+ghost use Rattle.rows.specs.Rows.{set-rows, at, holds-at, Small, Within};
 ghost use Rattle.sets.specs.declared.Outcome.{Outcome};
 ghost use Rattle.sets.specs.declared.Refusal.{Refusal};
-ghost use Rattle.sets.specs.Stores.{with-rows};
 ghost use Rattle.models.specs.Automaton.{given-rows, given-transitions, reference-list, row-of, is-of, rows-of, setting-of};
 ghost use Rattle.models.specs.Acceptance.{unless, between, between-whole, header-fits, transition-declared, owner-declared, entry-declared, entries-declared, reference-fits, row-declared, terms-fit, rows-accepted, reference-accepted, accepted};
 use rows::Row;
@@ -311,18 +309,6 @@ fn held(count: usize) -> usize
     }
 }
 
-// The row written as row k of a store if it is wanted; answers how many rows then stand there.
-fn put_if(wanted: bool, row: Row, to: &mut [i32], k: usize) -> usize
-    requires { ⌜ (k + cond wanted 1 0 ≤ set-rows) × (set-numbers ≤ length (now to)) ⌝ }
-    ensures { λ r. ⌜ (r ≡ cond wanted (k + 1) k) × (now (to .exit) ≡ cond wanted (with-row (now (to .entry)) (k * row-numbers) row) (now (to .entry))) ⌝ }
-{
-    if wanted {
-        row.write(to, k * Row::NUMBERS);
-        return k + 1;
-    }
-    k
-}
-
 impl Model {
     // The reference as a setting of eight parameters.
     pub fn setting(self) -> [i64; 9]
@@ -418,19 +404,5 @@ impl Model {
             Outcome::Found => self.reference_outcome(),
             Outcome::Refused(q) => Outcome::Refused(q),
         }
-    }
-
-    // Inner step: the rows of an owner in table order, written from row `first` of a store on that takes any set; answers how many.
-    pub fn rows_from(self, kind: u8, owner: u8, to: &mut [i32], first: usize) -> usize
-        requires { ⌜ (first + length (rows-of self kind owner) ≤ set-rows) × (set-numbers ≤ length (now to)) ⌝ }
-        ensures { λ r. ⌜ (r ≡ length (rows-of self kind owner)) × All (λ x. length (x .entries) ≡ entry-count) (rows-of self kind owner) × (now (to .exit) ≡ take (first * row-numbers) (now (to .entry)) ++ with-rows (rows-of self kind owner) (drop (first * row-numbers) (now (to .entry)))) ⌝ }
-    {
-        let n = held(self.count);
-        let mut k: usize = first;
-        for i in 0..n {
-            let r = self.rows[i];
-            k = put_if(r.is_of(kind, owner), r.row(), to, k);
-        }
-        k - first
     }
 }

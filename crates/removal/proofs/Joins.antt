@@ -1,106 +1,68 @@
 -- The pairs of a removal, row by row: what comes of joining them to the rows without the variable.
 -- Assumes nothing.
 use mathlib.Core.Path.{_≡_, refl, sym, ap, subst, _∙_}
-use mathlib.Core.Bool.{Bool, true, false, _||_, or-assoc}
 use mathlib.Core.List.{List, [], _∷_, _++_, map}
-use Prim.Native.Nat.{ℕ, _+_, _-_, _*_, _≤_, _<_, zero-le}
-use native.Mathlib.Nat.{le-trans, zero-add, sub-zero}
-use native.Mathlib.Omega.{arith}
+use Prim.Native.Nat.{ℕ, _+_, _≤_, _<_, zero-le}
+use native.Mathlib.Nat.{le-trans}
 use lib.ListN.{length, getD, take, drop}
 use lib.Seq.{length-take-le, getD-take}
 use lib.IntN.{ℤ}
-use Rattle.integers.specs.Lists.{All, pairs, filter}
-use Rattle.integers.specs.Signs.{isAbove}
+use Rattle.integers.specs.Lists.{All, pairs}
 use Rattle.integers.proofs.Lists.{all-append, length-filter}
 use Rattle.integers.proofs.Loops.{drop-turn, drop-done}
-use Rattle.integers.proofs.Tests.{not-both}
 use Rattle.rows.specs.declared.Row.{Row}
-use Rattle.rows.specs.declared.Fate.{Fate}
-use Rattle.rows.specs.declared.Fate.the-variants.{Kept, Gone, TooLarge}
-use Rattle.rows.specs.Rows.{entry-count, row-numbers, set-numbers, kept, divided-down, paired, row-at}
+use Rattle.rows.specs.Rows.{entry-count, set-numbers, kept, divided-down, paired, row-at}
 use Rattle.rows.proofs.Dividing.{Wide}
 use Rattle.rows.proofs.Pairing.{paired-wide}
-use Rattle.sets.specs.declared.Refusal.the-variants.{EntryTooLarge}
-use Rattle.sets.specs.declared.Outcome.the-variants.{Found, Refused}
+use Rattle.sets.specs.declared.Outcome.the-variants.{Found}
 use Rattle.sets.specs.declared.Joined.{Joined}
-use Rattle.sets.specs.Outcomes.{Result, found, refused}
-use Rattle.sets.specs.Stores.{rows-at, with-rows, set-in, Left, next, progress, Ready, put-all}
+use Rattle.sets.specs.Outcomes.{Result, found}
+use Rattle.sets.specs.Stores.{with-rows, set-in, Left, next, progress, Ready, put-all}
 use Rattle.sets.proofs.Ordered.{filter-ordered}
 use Rattle.sets.proofs.Parts.{all-at}
-use Rattle.sets.proofs.Stores.{holds-wide, touched-none}
-use Rattle.sets.proofs.Steps.{IsSet, set-in-store, left-progress, left-ready, left-twice, joined-put-all, put-all-large, put-all-proper, put-all-grows, put-all-append, joined-itself, rows-left}
-use Rattle.removal.specs.Removal.{entry, untouched, uppers, lowers, remaining, removed}
-use Rattle.removal.specs.Pairs.{lower-places, pairs-at}
+use Rattle.sets.proofs.Stores.{holds-wide}
+use Rattle.sets.proofs.Steps.{IsSet, set-in-store, left-progress, left-ready, left-twice, joined-put-all, put-all-proper, put-all-grows, put-all-append, joined-itself}
+use Rattle.removal.specs.Removal.{untouched, uppers, lowers, remaining, removed}
+use Rattle.removal.specs.Pairs.{row-of, rows-of}
 use Rattle.removal.specs.Alone.{DividedSet}
 use Rattle.removal.proofs.Exact.{apart}
 use Rattle.removal.proofs.Kept.{remaining-keeps}
-use Rattle.removal.proofs.Places.{pairs-lowers}
 
--- ---- one row more above zero, or another
-module _ (v : ℕ) (r : Row) (rows lows : List Row) where
-  pairs-above : isAbove (entry v r) ≡ true → pairs (paired v) (uppers v (r ∷ rows)) lows ≡ map (paired v r) lows ++ pairs (paired v) (uppers v rows) lows
-  unfolding uppers filter pairs
-  pairs-above e = rw e
+-- ---- a loop over the first m numbers of a list, the next one being number j
+module _ (list : List ℕ) (m j : ℕ) (room : m ≤ length list) where
+  pub next-is : {P : ℕ → Type 0} → All P (take m list) → j < m → P (getD list j 0)
+  next-is {P} a h = subst P (getD-take m list j 0 h) (all-at (take m list) 0 a j (rw (length-take-le m list room) h))
 
-  pairs-other : isAbove (entry v r) ≡ false → pairs (paired v) (uppers v (r ∷ rows)) lows ≡ pairs (paired v) (uppers v rows) lows
-  unfolding uppers filter
-  pairs-other e = rw e
+  turn : j < m → drop j (take m list) ≡ getD list j 0 ∷ drop (j + 1) (take m list)
+  turn h = drop-turn (take m list) j 0 (rw (length-take-le m list room) h) ∙ ap (λ (k : ℕ). k ∷ drop (j + 1) (take m list)) (getD-take m list j 0 h)
 
--- ---- the pairs of one row with the rows at the first m places, the next one being place j
-module _ (v : ℕ) (s : List ℤ) (p : ℕ) (places : List ℕ) (m j : ℕ) (room : m ≤ length places) where
-  abbrev next-pair : Row
-  next-pair = paired v (row-at s p) (row-at s (getD places j 0))
+  done : m ≤ j → drop j (take m list) ≡ []
+  done h = drop-done (take m list) j (rw (length-take-le m list room) h)
 
-  pub place-of-next : {P : ℕ → Type 0} → All P (take m places) → j < m → P (getD places j 0)
-  place-of-next {P} a h = subst P (getD-take m places j 0 h) (all-at (take m places) 0 a j (rw (length-take-le m places room) h))
+  -- the pairs of one row with the rows of these numbers
+  module _ (v : ℕ) (s : List ℤ) (p : ℕ) where
+    abbrev next-pair : Row
+    next-pair = paired v (row-at s p) (row-of s (getD list j 0))
 
-  turn : j < m → pairs-at v s p (drop j (take m places)) ≡ next-pair ∷ pairs-at v s p (drop (j + 1) (take m places))
-  unfolding pairs-at
-  turn h = rw (drop-turn (take m places) j 0 (rw (length-take-le m places room) h), getD-take m places j 0 h)
+    pub put-turn : j < m → (x y : Result (List Row)) → y ≡ next (divided-down next-pair .fate) (divided-down next-pair .row) x →
+        put-all (map (paired v (row-at s p)) (rows-of s (drop (j + 1) (take m list)))) y ≡ put-all (map (paired v (row-at s p)) (rows-of s (drop j (take m list)))) x
+    unfolding put-all
+    put-turn h x y e = rw (turn h, e)
 
-  done : m ≤ j → pairs-at v s p (drop j (take m places)) ≡ []
-  unfolding pairs-at
-  done h = rw (drop-done (take m places) j (rw (length-take-le m places room) h))
+    pub put-done : m ≤ j → (x : Result (List Row)) → put-all (map (paired v (row-at s p)) (rows-of s (drop j (take m list)))) x ≡ x
+    unfolding put-all
+    put-done h x = rw (done h)
 
-  pub put-turn : j < m → (x y : Result (List Row)) → y ≡ next (divided-down next-pair .fate) (divided-down next-pair .row) x →
-      put-all (pairs-at v s p (drop (j + 1) (take m places))) y ≡ put-all (pairs-at v s p (drop j (take m places))) x
-  unfolding put-all
-  put-turn h x y e = rw (turn h, e)
+  -- the pairs of the rows of these numbers with some rows
+  module _ (v : ℕ) (s : List ℤ) (lows : List Row) where
+    pub put-row-turn : j < m → (x y : Result (List Row)) → y ≡ put-all (map (paired v (row-of s (getD list j 0))) lows) x →
+        put-all (pairs (paired v) (rows-of s (drop (j + 1) (take m list))) lows) y ≡ put-all (pairs (paired v) (rows-of s (drop j (take m list))) lows) x
+    unfolding pairs
+    put-row-turn h x y e = rw (turn h, put-all-append, e)
 
-  pub put-done : m ≤ j → (x : Result (List Row)) → put-all (pairs-at v s p (drop j (take m places))) x ≡ x
-  unfolding put-all
-  put-done h x = rw (done h)
-
--- ---- the pairs of the rows from row i on, of n
-abbrev pub pairs-from : ℕ → List ℤ → ℕ → ℕ → List Row
-pairs-from v s n i = pairs (paired v) (uppers v (rows-at s (i * row-numbers) (n - i))) (lowers v (set-in s n))
-
-pub from-first : (v : ℕ) (s : List ℤ) (n : ℕ) → pairs-from v s n 0 ≡ pairs (paired v) (uppers v (set-in s n)) (lowers v (set-in s n))
-from-first v s n = rw sub-zero
-
-module _ (v : ℕ) (s : List ℤ) (n i : ℕ) where
-  from-last : n ≤ i → pairs-from v s n i ≡ []
-  unfolding rows-at uppers filter pairs
-  from-last h = let e : n - i ≡ 0 = omega arith in rw e
-
-  pub put-from-done : n ≤ i → (x : Result (List Row)) → put-all (pairs-from v s n i) x ≡ x
-  unfolding put-all
-  put-from-done h x = rw (from-last h)
-
-  rows-turn : i < n → rows-at s (i * row-numbers) (n - i) ≡ row-at s (i * row-numbers) ∷ rows-at s ((i + 1) * row-numbers) (n - (i + 1))
-  rows-turn h = simp zero-add at (rows-left s 0 n i h)
-
-  -- a row that is not above zero has none
-  pub from-passed : i < n → isAbove (entry v (row-at s (i * row-numbers))) ≡ false → pairs-from v s n (i + 1) ≡ pairs-from v s n i
-  from-passed h e = rw (rows-turn h) (sym (pairs-other v (row-at s (i * row-numbers)) _ (lowers v (set-in s n)) e))
-
-  module _ (places : List ℕ) (m : ℕ) (listed : take m places ≡ lower-places v s 0 n) where
-    from-turn : i < n → isAbove (entry v (row-at s (i * row-numbers))) ≡ true → pairs-from v s n i ≡ pairs-at v s (i * row-numbers) (take m places) ++ pairs-from v s n (i + 1)
-    from-turn h e = rw (rows-turn h, listed, pairs-lowers) (pairs-above v (row-at s (i * row-numbers)) _ (lowers v (set-in s n)) e)
-
-    pub put-from-turn : i < n → isAbove (entry v (row-at s (i * row-numbers))) ≡ true → (x y : Result (List Row)) → y ≡ put-all (pairs-at v s (i * row-numbers) (take m places)) x →
-        put-all (pairs-from v s n (i + 1)) y ≡ put-all (pairs-from v s n i) x
-    put-from-turn h e x y f = rw (from-turn h e, put-all-append, f)
+    pub put-row-done : m ≤ j → (x : Result (List Row)) → put-all (pairs (paired v) (rows-of s (drop j (take m list))) lows) x ≡ x
+    unfolding put-all pairs
+    put-row-done h x = rw (done h)
 
 -- ---- the rows without the variable are a set, as they stand
 pub untouched-set : (v : ℕ) (s : List Row) → IsSet s → IsSet (untouched v s)

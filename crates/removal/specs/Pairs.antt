@@ -1,22 +1,24 @@
--- Words for the code of one removal: places in a store, and rows that join one by one.
-use mathlib.Core.Bool.{cond}
-use mathlib.Core.List.{List, [], _∷_, map}
-use Prim.Native.Nat.{ℕ, zero, suc, _+_, _≤_}
+-- Words for the code of one removal: rows by their numbers, which count from 0 at the front of a store.
+use mathlib.Core.Bool.{Bool, cond}
+use mathlib.Core.List.{List, [], _∷_, _++_, map}
+use Prim.Native.Nat.{ℕ, zero, suc, _+_, _*_, _≤_}
 use lib.ListN.{length}
 use lib.IntN.{ℤ}
-use Rattle.integers.specs.Signs.{isBelow}
 use Rattle.rows.specs.declared.Row.{Row}
-use Rattle.rows.specs.Rows.{row-numbers, Small, paired, row-at}
+use Rattle.rows.specs.Rows.{row-numbers, Small, row-at}
 use Rattle.removal.specs.Removal.{entry}
 
--- the places of the rows below zero, among n rows from an offset
-unfoldable pub lower-places : ℕ → List ℤ → ℕ → ℕ → List ℕ
-lower-places v s at zero = []
-lower-places v s at (suc n) = let rest = lower-places v s (at + row-numbers) n in cond (isBelow (entry v (row-at s at))) (at ∷ rest) rest
+-- the row of a number, and the rows of several
+abbrev pub row-of : List ℤ → ℕ → Row
+row-of s i = row-at s (i * row-numbers)
 
--- the pairs of the row at p with the rows at these places
-unfoldable pub pairs-at : ℕ → List ℤ → ℕ → List ℕ → List Row
-pairs-at v s p qs = map (λ q. paired v (row-at s p) (row-at s q)) qs
+abbrev pub rows-of : List ℤ → List ℕ → List Row
+rows-of s is = map (row-of s) is
+
+-- the numbers of those of the first n rows whose entry v passes a test
+unfoldable pub numbers-where : (ℤ → Bool) → ℕ → List ℤ → ℕ → List ℕ
+numbers-where test v s zero = []
+numbers-where test v s (suc n) = numbers-where test v s n ++ cond (test (entry v (row-of s n))) (n ∷ []) []
 
 -- a row stands there with entries within the limit
 pub record SmallAt (s : List ℤ) (p : ℕ) : Type 0 where

@@ -1,30 +1,32 @@
 -- The short way to a pair: where its two multipliers are equal it is a multiple of the plain sum, which is divided down to the same row;
--- and a row with an entry 1 or −1 is divided down already. Assumes nothing.
+-- and a row that names a variable and has an entry 1 or −1 is divided down already. Assumes nothing.
 use mathlib.Core.Path.{_≡_, refl, sym, ap, ap₂, _∙_, subst}
 use mathlib.Core.Bool.{Bool, true, false, not, cond, _&&_}
 use mathlib.Core.Logic.{⊎-elim}
 use mathlib.Core.List.{List, [], _∷_, map}
-use Prim.Native.Nat.{ℕ, zero, suc, _*_, _<_, _∣_}
-use native.Mathlib.Nat.{eq-one-of-dvd-one, one-dvd, mul-zero, mul-dvd-mul-left}
+use Prim.Native.Nat.{ℕ, suc, _*_, _<_, _∣_}
+use native.Mathlib.Nat.{eq-one-of-dvd-one, mul-zero, mul-dvd-mul-left}
 use native.Mathlib.Omega.{arith}
-use borrow.Author.Tests.{not-true}
+use borrow.Author.Tests.{eqb-true, not-true}
+use lib.Dec.{eqb}
 use lib.ListN.{drop}
-use lib.IntN.{ℤ, pos, negsuc, negℤ, natAbs, _+ℤ_, _-ℤ_, _*ℤ_, *ℤ-zero, negℤ-negℤ}
+use lib.IntN.{ℤ, pos, negℤ, natAbs, _+ℤ_, _*ℤ_, *ℤ-zero, negℤ-negℤ}
 use lib.Signed.{quotZ}
 use Rattle.integers.specs.Gcd.{gcd}
-use Rattle.integers.specs.Lists.{All, nil, cons, In, here, there, every}
+use Rattle.integers.specs.Lists.{All, every}
 use Rattle.integers.specs.Signs.{isZero}
 use Rattle.integers.proofs.Bounds.{natAbs-mul}
 use Rattle.integers.proofs.Euclid.{gcd-scale, quot-exact}
-use Rattle.integers.proofs.Lists.{all-head, all-tail, all-in}
-use Rattle.integers.proofs.Tests.{T-of, and-left, and-right, and-false, not-both, zero-of, false-of, from-difference}
-use Rattle.integers.proofs.Whole.{IsPos, is-pos, pos-*, *ℤ-+ℤ, *ℤ-assoc, one-*ℤ, eq-unscale}
+use Rattle.integers.proofs.Lists.{all-head, all-tail}
+use Rattle.integers.proofs.Tests.{and-left, and-right, or-true, not-both, zero-of, false-of, from-difference}
+use Rattle.integers.proofs.Whole.{IsPos, is-pos, pos-*, *ℤ-+ℤ, *ℤ-assoc, eq-unscale}
 use Rattle.rows.specs.declared.Row.{Row}
-use Rattle.rows.specs.declared.Settled.{Settled}
-use Rattle.rows.specs.Rows.{at, under, Under, gcd-from, divisor, divided, all-zero, gone, kept, false-row, limited, constant, divided-down, plus, times, paired, added, is-not, has-one}
+use Rattle.rows.specs.Rows.{at, under, gcd-from, divisor, divided, all-zero, gone, kept, false-row, limited, constant, divided-down, plus, times, paired, added, has-unit, has-one, all-small, too-large}
 use Rattle.entries.proofs.Sums.{at-times}
 use Rattle.rows.proofs.Sign.{under-scale, under-unscale, under-yes, under-no}
 use Rattle.entries.proofs.Common.{divisor-divides, divisor-pos, divisor-gcd}
+use Rattle.entries.proofs.Nonzero.{unit-variable}
+use Rattle.rows.proofs.Again.{undivided}
 
 -- ---- multiples
 times-plus : (k : ℤ) (l m : List ℤ) → times k (plus l m) ≡ plus (times k l) (times k m)
@@ -110,7 +112,7 @@ module _ {c : ℕ} (h : IsPos (pos c)) (r : Row) where
   unfolding constant
   constant-times = ap (λ (b : Bool). cond b gone (kept false-row)) (ap (under (r .strict)) (at-times (pos c) (r .entries) 0) ∙ under-times h (r .strict) (at (r .entries) 0))
 
-  divided-down-times : divided-down multiple ≡ divided-down r
+  pub divided-down-times : divided-down multiple ≡ divided-down r
   unfolding divided-down
   divided-down-times =
       ap (λ (b : Bool). cond b (constant multiple) (limited (divided multiple))) (ap all-zero (drop-times (pos c) (r .entries)) ∙ all-zero-times h (drop 1 (r .entries)))
@@ -134,40 +136,35 @@ paired-added v r s h e =
     ap (λ (t : ℤ). divided-down (record { entries = plus (times t (r .entries)) (times a (s .entries)); strict = added r s .strict })) f ∙ times-added a h r s
 
 -- ---- a row with an entry 1 or −1
-one-of : (x : ℤ) (l : List ℤ) → every (is-not x) l ≡ false → In x l
-unfolding every
-one-of x [] e = not-both (sym e)
-one-of x (z ∷ l) e = go (isZero (z -ℤ x)) refl (one-of x l)
-  where
-    go : (b : Bool) → isZero (z -ℤ x) ≡ b → (every (is-not x) l ≡ false → In x l) → In x (z ∷ l)
-    go true f more = here (sym (from-difference z x (zero-of (z -ℤ x) f)))
-    go false f more = there (more (rw f at e))
+unit-divisor : (d : ℕ) (l : List ℤ) → has-unit l ≡ true → All (λ z. d ∣ natAbs z) l → d ≡ 1
+unfolding has-unit
+unit-divisor d [] e a = not-both e
+unit-divisor d (z ∷ l) e a =
+    ⊎-elim
+    (λ f. eq-one-of-dvd-one (subst (λ (n : ℕ). d ∣ n) (eqb-true (natAbs z) 1 f) (all-head a)))
+    (λ f. unit-divisor d l f (all-tail a))
+    (or-true (eqb (natAbs z) 1) (has-unit l) e)
 
--- the entries stay as they are where the divisor is 1
-quot-one : (l : List ℤ) → map (λ z. quotZ z (pos 1)) l ≡ l
-quot-one [] = refl
-quot-one (z ∷ l) = ap₂ {C = List ℤ} (λ x m. x ∷ m) (sym (one-*ℤ (quotZ z (pos 1))) ∙ quot-exact (is-pos 0) z (one-dvd (natAbs z))) (quot-one l)
-
-in-rest : (x : ℤ) (l : List ℤ) → In x (drop 1 l) → In x l
-in-rest x (z ∷ l) i = there i
-
-zero-in : (x : ℤ) (l : List ℤ) → In x l → all-zero l ≡ true → isZero x ≡ true
-unfolding all-zero every
-zero-in x (z ∷ l) (here e) f = rw e (and-left (isZero z) (every isZero l) f)
-zero-in x (z ∷ l) (there i) f = zero-in x l i (and-right (isZero z) (every isZero l) f)
-
-limited-by : (r : Row) (x : ℤ) → natAbs x ≡ 1 → isZero x ≡ false → In x (drop 1 (r .entries)) → divided-down r ≡ limited r
-unfolding divided-down divided
-limited-by r x one some i =
+-- the divisor is 1: where a variable is named, only the limit is left to test
+pub unit-limited : (r : Row) → has-unit (r .entries) ≡ true → all-zero (drop 1 (r .entries)) ≡ false → divided-down r ≡ limited r
+unfolding divided-down
+unit-limited r unit some =
     let l = r .entries in
-    let d : divisor l ≡ 1 = eq-one-of-dvd-one (subst (λ (n : ℕ). divisor l ∣ n) one (all-in (divisor-divides l) (in-rest x l i))) in
-    let v : all-zero (drop 1 l) ≡ false = false-of (all-zero (drop 1 l)) (λ f. not-both (sym some ∙ zero-in x (drop 1 l) i f)) in
-    rw (v, d, quot-one l)
+    rw some (ap limited (undivided r (unit-divisor (divisor l) l unit (divisor-divides l))))
 
 pub has-one-limited : (r : Row) → has-one r ≡ true → divided-down r ≡ limited r
 unfolding has-one
 has-one-limited r e =
-    ⊎-elim
-    (λ f. limited-by r (pos 1) refl refl (one-of (pos 1) (drop 1 (r .entries)) f))
-    (λ f. limited-by r (negsuc 0) refl refl (one-of (negsuc 0) (drop 1 (r .entries)) f))
-    (and-false (every (is-not (pos 1)) (drop 1 (r .entries))) (every (is-not (negsuc 0)) (drop 1 (r .entries))) (not-true _ e))
+    let l = r .entries in
+    let c = eqb (natAbs (at l 0)) 1 in
+    let unit = and-left (has-unit l) (not c) e in
+    unit-limited r unit (unit-variable l unit (not-true c (and-right (has-unit l) (not c) e)))
+
+-- within the limit the row stays as it is; else it is too large
+pub limited-kept : (r : Row) → all-small (r .entries) ≡ true → limited r ≡ kept r
+unfolding limited
+limited-kept r e = rw e
+
+pub limited-large : (r : Row) → all-small (r .entries) ≡ false → limited r ≡ too-large
+unfolding limited
+limited-large r e = rw e

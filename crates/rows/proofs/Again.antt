@@ -70,7 +70,7 @@ zeros-back g (z ∷ l) a e =
     let y = every isZero (map (λ z. quotZ z (pos g)) l) in
     rw (is-zero z (zero-back g z (all-head a) (zero-of (quotZ z (pos g)) (and-left x y e)))) (zeros-back g l (all-tail a) (and-right x y e))
 
-drop-map : (f : ℤ → ℤ) (l : List ℤ) → drop 1 (map f l) ≡ map f (drop 1 l)
+pub drop-map : (f : ℤ → ℤ) (l : List ℤ) → drop 1 (map f l) ≡ map f (drop 1 l)
 drop-map f [] = refl
 drop-map f (z ∷ l) = refl
 

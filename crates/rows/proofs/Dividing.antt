@@ -5,7 +5,6 @@ use mathlib.Core.Logic.{_↔_, _≢_}
 use mathlib.Core.List.{List, [], _∷_, map}
 use Prim.Native.Nat.{ℕ, zero, suc, _<_, _∣_}
 use native.Mathlib.Nat.{zero-div, lt-irrefl}
-use lib.Dec.{leb}
 use lib.ListN.{length, drop, length-map, replicate}
 use lib.IntN.{ℤ, pos, natAbs, _*ℤ_, +ℤ-idr, *ℤ-comm, *ℤ-zero, zero-*ℤ}
 use lib.Signed.{quotZ, _<ℤ_, clashℤ}
@@ -145,6 +144,17 @@ divided-wide r = length-map (r .entries) _
 
 pub divided-down-wide : (r : Row) → Wide r → IfKept Wide (divided-down r .fate) (divided-down r .row)
 divided-down-wide r h = if-kept Wide r false-wide (λ z e. divided-wide r ∙ h)
+
+-- the row that comes of it is as wide also where it is gone or too large
+pub settled-wide : (r : Row) → Wide r → Wide (divided-down r .row)
+unfolding divided-down constant limited
+settled-wide r h = go (all-zero (drop 1 (r .entries))) (under (r .strict) (at (r .entries) 0)) (all-small (divided r .entries))
+  where
+    go : (a b c : Bool) → Wide (cond a (cond b gone (kept false-row)) (cond c (kept (divided r)) too-large) .row)
+    go true true c = refl
+    go true false c = false-wide
+    go false b true = divided-wide r ∙ h
+    go false b false = refl
 
 -- ---- a variable that the row does not name is not named after
 abbrev pub Blind : ℕ → Row → Type 0

@@ -7,4 +7,7 @@ pub mod Lowering
 pub mod Dividing
 pub mod Again
 pub mod Adding
+pub mod Level
+pub mod Units
 pub mod Stores
+pub mod Blocks

@@ -1,18 +1,23 @@
 -- The order of rows is a total order: rows that are `Same` are equal, turning a comparison turns its outcome, `Before` is transitive.
+-- Lists are ordered by their fronts, then by their rests.
 -- Assumes nothing.
 use mathlib.Core.Path.{_≡_, refl, sym, _∙_, ap, ap₂, subst}
-use mathlib.Core.Bool.{Bool, true, false, cond}
+use mathlib.Core.Bool.{Bool, true, false, cond, Bool·beq}
 use mathlib.Core.Logic.{_≢_, _⊎_, inl, inr}
-use mathlib.Core.List.{List, [], _∷_}
+use mathlib.Core.List.{List, [], _∷_, _++_}
+use Prim.Native.Nat.{ℕ, _<_}
+use native.Mathlib.Nat.{not-suc-le-zero}
+use native.Mathlib.Omega.{arith}
 use lib.Dec.{T}
-use lib.IntN.{ℤ}
+use lib.ListN.{length, getD}
+use lib.IntN.{ℤ, pos}
 use lib.Signed.{_≤ℤ_, _<ℤ_, ltZ, ltZ-yes, ltZ-no}
-use Rattle.integers.proofs.Tests.{T-of}
+use Rattle.integers.proofs.Tests.{T-of, not-both, false-of}
 use Rattle.integers.proofs.Whole.{zed}
 use Rattle.rows.specs.declared.Row.{Row}
 use Rattle.rows.specs.declared.Order.{Order}
 use Rattle.rows.specs.declared.Order.the-variants.{Before, Same, After}
-use Rattle.rows.specs.Rows.{then-by, number-order, entry-order, flag-order, row-order}
+use Rattle.rows.specs.Rows.{at, then-by, number-order, entry-order, flag-order, row-order, is-same, same-row}
 
 -- ---- the three outcomes differ
 abbrev is-before : Order → Type 0
@@ -20,16 +25,11 @@ is-before Before = Unit {0}
 is-before Same = ⊥
 is-before After = ⊥
 
-abbrev is-same : Order → Type 0
-is-same Before = ⊥
-is-same Same = Unit {0}
-is-same After = ⊥
-
 before-not-same : {G : Type 0} → Before ≡ Same → G
-before-not-same e = absurd (subst is-same (sym e) tt)
+before-not-same e = not-both (ap is-same e)
 
 after-not-same : {G : Type 0} → After ≡ Same → G
-after-not-same e = absurd (subst is-same (sym e) tt)
+after-not-same e = not-both (ap is-same e)
 
 same-not-before : {G : Type 0} → Same ≡ Before → G
 same-not-before e = absurd (subst is-before (sym e) tt)
@@ -97,6 +97,34 @@ pub row-itself : (r : Row) → row-order r r ≡ Same
 unfolding row-order
 row-itself r = ap₂ {C = Order} then-by (entries-itself (r .entries)) (flag-itself (r .strict))
 
+-- ---- the test for it
+pub order-same : (o : Order) → is-same o ≡ true → o ≡ Same
+order-same Before e = not-both e
+order-same Same e = refl
+order-same After e = not-both e
+
+pub same-row-is : (r s : Row) → same-row r s ≡ true → r ≡ s
+unfolding same-row
+same-row-is r s e = row-same r s (order-same (row-order r s) e)
+
+pub same-row-itself : (r : Row) → same-row r r ≡ true
+unfolding same-row
+same-row-itself r = rw (row-itself r) refl
+
+-- an entry that differs decides it; where none does, the flags
+pub other-entry : (r s : Row) (i : ℕ) → getD (r .entries) i (pos 0) ≢ getD (s .entries) i (pos 0) → false ≡ same-row r s
+other-entry r s i f = sym (false-of (same-row r s) (λ t. f (ap (λ (u : Row). getD (u .entries) i (pos 0)) (same-row-is r s t))))
+
+flags-alike : (a b : Bool) → Bool·beq a b ≡ is-same (flag-order a b)
+flags-alike false false = refl
+flags-alike false true = refl
+flags-alike true false = refl
+flags-alike true true = refl
+
+pub same-entries : (r s : Row) → r .entries ≡ s .entries → Bool·beq (r .strict) (s .strict) ≡ same-row r s
+unfolding same-row row-order
+same-entries r s e = rw (e, entries-itself (s .entries)) (flags-alike (r .strict) (s .strict))
+
 -- ---- the comparison turned
 abbrev pub turned : Order → Order
 turned Before = After
@@ -158,12 +186,23 @@ number-lt x y = go (ltZ x y) (ltZ y x) refl
     go false true e f = after-not-before f
     go false false e f = same-not-before f
 
+pub number-before : (x y : ℤ) → ltZ x y ≡ true → number-order x y ≡ Before
+number-before x y t = rw t refl
+
 lt-number : (x y : ℤ) → x <ℤ y → number-order x y ≡ Before
 lt-number x y h = go (ltZ x y) refl
   where
     go : (b : Bool) → ltZ x y ≡ b → cond b Before (cond (ltZ y x) After Same) ≡ Before
     go true e = refl
     go false e = absurd (subst T e (h .lt))
+
+-- two numbers that differ, the first not below the second
+pub number-after : (x y : ℤ) → x ≢ y → ltZ x y ≡ false → number-order x y ≡ After
+number-after x y d f = rw f (go (ltZ y x) refl)
+  where
+    go : (b : Bool) → ltZ y x ≡ b → cond b After Same ≡ After
+    go true g = refl
+    go false g = let a : y ≤ℤ x = ltZ-no (rw f tt) in let b : x ≤ℤ y = ltZ-no (rw g tt) in absurd (d (omega zed))
 
 number-trans : (x y z : ℤ) → number-order x y ≡ Before → number-order y z ≡ Before → number-order x z ≡ Before
 number-trans x y z e f = let a = number-lt x y e in let b = number-lt y z f in lt-number x z (omega zed)
@@ -210,3 +249,28 @@ row-trans r s t e f = row-step r s t
 
 pub before-differs : (r s : Row) → row-order r s ≡ Before → s ≢ r
 before-differs r s e f = same-not-before (sym (row-itself r) ∙ subst (λ (u : Row). row-order r u ≡ Before) f e)
+
+-- ---- a row with the larger constant stands behind
+first-after : (l m : List ℤ) → 0 < length l → at m 0 <ℤ at l 0 → entry-order l m ≡ After
+unfolding entry-order
+first-after [] m h k = absurd (not-suc-le-zero h)
+first-after (x ∷ l) [] h k = refl
+first-after (x ∷ l) (y ∷ m) h k = rw (sym (turned-number y x) ∙ ap turned (lt-number y x k)) refl
+
+pub constant-after : (r s : Row) → 0 < length (r .entries) → at (s .entries) 0 <ℤ at (r .entries) 0 → row-order r s ≡ After
+unfolding row-order
+constant-after r s h k = rw (first-after (r .entries) (s .entries) h k) refl
+
+-- ---- lists whose fronts are as long as each other: the order of the fronts, then that of the rests
+then-assoc : (o p q : Order) → then-by (then-by o p) q ≡ then-by o (then-by p q)
+then-assoc Before p q = refl
+then-assoc Same p q = refl
+then-assoc After p q = refl
+
+pub entries-joined : (p q l m : List ℤ) → length p ≡ length q → entry-order (p ++ l) (q ++ m) ≡ then-by (entry-order p q) (entry-order l m)
+unfolding entry-order
+entries-joined [] [] l m e = refl
+entries-joined [] (y ∷ q) l m e = absurd (omega arith)
+entries-joined (x ∷ p) [] l m e = absurd (omega arith)
+entries-joined (x ∷ p) (y ∷ q) l m e =
+    ap (then-by (number-order x y)) (entries-joined p q l m (omega arith)) ∙ sym (then-assoc (number-order x y) (entry-order p q) (entry-order l m))

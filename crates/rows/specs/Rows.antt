@@ -5,13 +5,11 @@ use mathlib.Core.List.{List, [], _∷_, _++_, map}
 use Prim.Native.Nat.{ℕ, _+_, _*_}
 use lib.Dec.{eqb}
 use lib.ListN.{getD, take, drop, replicate}
-use lib.IntN.{ℤ, pos, negsuc, negℤ, _+ℤ_, _*ℤ_}
+use lib.IntN.{ℤ, pos, negsuc, negℤ, natAbs, _+ℤ_, _*ℤ_}
 use lib.Signed.{quotZ, ltZ, leZ, _≤ℤ_, _<ℤ_}
-use Rattle.integers.specs.Lists.{every}
-pub use Rattle.entries.specs.Entries.{entry-count, at, Within, Small, gcd-from, or-one, is-not}
-unfoldable pub use Rattle.entries.specs.Entries.{with-entry, divisor, all-small, all-zero, plus, times}
+pub use Rattle.entries.specs.Entries.{entry-count, at, Within, Small, gcd-from, or-one}
+unfoldable pub use Rattle.entries.specs.Entries.{with-entry, divisor, all-small, all-zero, has-unit, plus, times}
 use Rattle.rows.specs.declared.Row.{Row}
-use Rattle.rows.specs.declared.Fate.{Fate}
 use Rattle.rows.specs.declared.Fate.the-variants.{Kept, Gone, TooLarge}
 use Rattle.rows.specs.declared.Settled.{Settled}
 use Rattle.rows.specs.declared.Order.{Order}
@@ -113,15 +111,20 @@ paired v r s = record {
 abbrev pub added : Row → Row → Row
 added r s = record { entries = plus (r .entries) (s .entries); strict = r .strict || s .strict }
 
--- a variable has the entry 1 or −1: then the row is divided down already
+-- an entry is 1 or −1 and the constant is not, so a variable has it: then the row is divided down already
 unfoldable pub has-one : Row → Bool
-has-one r = not (every (is-not (pos 1)) (drop 1 (r .entries)) && every (is-not (negsuc 0)) (drop 1 (r .entries)))
+has-one r = has-unit (r .entries) && not (eqb (natAbs (at (r .entries) 0)) 1)
 
 -- ---- the order of rows: entries 0 to 15 as signed numbers, then non-strict before strict
 abbrev pub then-by : Order → Order → Order
 then-by Before o = Before
 then-by Same o = o
 then-by After o = After
+
+abbrev pub is-same : Order → Bool
+is-same Before = false
+is-same Same = true
+is-same After = false
 
 abbrev pub number-order : ℤ → ℤ → Order
 number-order x y = cond (ltZ x y) Before (cond (ltZ y x) After Same)
@@ -140,6 +143,10 @@ flag-order true true = Same
 
 unfoldable pub row-order : Row → Row → Order
 row-order r s = then-by (entry-order (r .entries) (s .entries)) (flag-order (r .strict) (s .strict))
+
+-- two rows are the same where neither stands before the other
+unfoldable pub same-row : Row → Row → Bool
+same-row r s = is-same (row-order r s)
 
 -- ---- a row in a store: its 16 entries, then 1 for strict, else 0
 abbrev pub flag : Bool → ℤ

@@ -1,12 +1,12 @@
 // Rows: 16 signed entries and a strict flag, by value; what is done with them, and how they stand in a lent store.
 ghost use mathlib.Core.Path.{_≡_};
 ghost use mathlib.Core.Bool.{_||_};
-ghost use Prim.Native.Nat.{ℕ, _+_, _*_, _≤_, _<_, _^_};
+ghost use Prim.Native.Nat.{_+_, _≤_, _<_, _^_};
 ghost use lib.Dec.{leb};
-ghost use lib.ListN.{length, drop};
-ghost use lib.IntN.{ℤ, pos};
+ghost use lib.ListN.{length};
 ghost use Rattle.integers.specs.Limits.{given-limit};
-ghost use Rattle.rows.specs.Rows.{entry-count, row-numbers, set-rows, set-numbers, parameter-entry, clock-entry, delay-entry, empty-row, single, false-row, dot, under, holds-at, Within, Small, negated, constant, divided-down, limited, paired, added, has-one, flag-order, row-order, flag, row-at, with-row};
+ghost use Rattle.rows.specs.Rows.{entry-count, row-numbers, set-rows, set-numbers, parameter-entry, clock-entry, delay-entry, empty-row, single, false-row, dot, under, holds-at, Within, Small, negated, constant, divided-down, paired, added, has-one, is-same, flag-order, row-order, same-row, flag, row-at, with-row};
+ghost use Rattle.rows.specs.Blocks.{four-order, first-other};
 
 pub struct Row {
     pub entries: [i32; 16],
@@ -162,12 +162,40 @@ impl Row {
         }
     }
 
-    // Any entries, also the least number of the type.
+    // Inner step: the row divided down, written at an offset of a store; the answer is what became of it. A row returned by value would be copied once more.
+    // Any entries, also the least number of the type. Nearly all rows that need dividing have one magnitude throughout: only signs are left.
+    pub fn divided_into(self, to: &mut [i32], at: usize) -> Fate
+        requires { ⌜ at + row-numbers ≤ length (now to) ⌝ }
+        ensures { λ r. ⌜ r ≡ divided-down self .fate ⌝ }
+        ensures { λ r. ⌜ now (to .exit) ≡ with-row (now (to .entry)) at (divided-down self .row) ⌝ }
+    {
+        let e = self.entries;
+        let x = entries::first_variable(e);
+        if x == 0 {
+            return give(constant(entries::widened(e), self.strict), to, at);
+        }
+        if -2_147_483_647 <= x {
+            if entries::is_level(e, x) {
+                Row {
+                    entries: entries::signs(e),
+                    strict: self.strict,
+                }.write(to, at);
+                return Fate::Kept;
+            }
+        }
+        give(lowered(entries::widened(e), self.strict), to, at)
+    }
+
+    // The row divided down, by value.
     pub fn divided_down(self) -> Settled
         ensures { λ r. ⌜ r ≡ divided-down self ⌝ }
     {
-        let e = self.entries;
-        lowered(entries::widened(e), self.strict)
+        let mut to = [0i32; Row::NUMBERS];
+        let fate = self.divided_into(&mut to, 0);
+        Settled {
+            row: Row::read(&to, 0),
+            fate: fate,
+        }
     }
 
     // Inner step: the pair of two rows of a set, divided down. It needs no sign at v.
@@ -198,32 +226,22 @@ impl Row {
         }
     }
 
-    // Whether a variable has the entry 1 or -1.
+    // Whether an entry is 1 or -1 and the constant is not: then a variable has it, and the row is divided down already.
     pub fn has_one(self) -> bool
         ensures { λ r. ⌜ r ≡ has-one self ⌝ }
     {
         let e = self.entries;
-        if entries::none_is(e, 1) {
-            return !entries::none_is(e, -1);
+        if entries::has_unit(e) {
+            let c = e[0];
+            if c < -1 {
+                return true;
+            }
+            if 1 < c {
+                return true;
+            }
+            return c == 0;
         }
-        true
-    }
-
-    // The row as it is, or 9 where an entry is beyond the limit.
-    pub fn limited(self) -> Settled
-        ensures { λ r. ⌜ r ≡ limited self ⌝ }
-    {
-        let e = self.entries;
-        if entries::within_limit(e) {
-            return Settled {
-                row: self,
-                fate: Fate::Kept,
-            };
-        }
-        Settled {
-            row: Row::empty(),
-            fate: Fate::TooLarge,
-        }
+        false
     }
 
     // Inner step: the row's sum at a setting, a denominator and eight numerators, none beyond 1,000,000.
@@ -247,22 +265,19 @@ impl Row {
         is_under(self.strict, self.value(setting))
     }
 
-    pub fn order(self, other: Row) -> Order
-        ensures { λ r. ⌜ r ≡ row-order self other ⌝ }
+    // Inner step: whether it is the row that stands at an offset of a store.
+    pub fn is_at(self, s: &[i32], at: usize) -> bool
+        requires { ⌜ at + row-numbers ≤ length (now s) ⌝ }
+        ensures { λ r. ⌜ r ≡ same-row self (row-at (now (s .entry)) at) ⌝ }
     {
-        let x = self.entries;
-        let y = other.entries;
+        let e = self.entries;
         for i in 0..Row::ENTRIES {
-            let p = x[i];
-            let q = y[i];
-            if p < q {
-                return Order::Before;
-            }
-            if q < p {
-                return Order::After;
+            if e[i] != s[at + i] {
+                return false;
             }
         }
-        order_of_flags(self.strict, other.strict)
+        let strict = s[at + Row::ENTRIES] == 1;
+        self.strict == strict
     }
 
     // Inner step: the row that stands at an offset of a store.
@@ -291,6 +306,73 @@ impl Row {
         }
         s[at + Row::ENTRIES] = number_of_flag(self.strict);
     }
+
+    // Inner step: the order of the rows that stand at two offsets. Most rows differ in their first four entries. Where they do not,
+    // the other blocks of four are only compared for sameness, a whole block at once, until one differs.
+    pub fn order_in(s: &[i32], a: usize, t: &[i32], b: usize) -> Order
+        requires { ⌜ (a + row-numbers ≤ length (now s)) × (b + row-numbers ≤ length (now t)) ⌝ }
+        ensures { λ r. ⌜ r ≡ row-order (row-at (now (s .entry)) a) (row-at (now (t .entry)) b) ⌝ }
+    {
+        let o = order_of_four(s, a, t, b);
+        match o {
+            Order::Before => Order::Before,
+            Order::After => Order::After,
+            Order::Same => {
+                let k = first_other(s, a, t, b);
+                if k < Row::ENTRIES {
+                    return order_of_four(s, a + k, t, b + k);
+                }
+                order_of_flags(s[a + Row::ENTRIES] == 1, t[b + Row::ENTRIES] == 1)
+            }
+        }
+    }
+}
+
+// The order of the four numbers at each of two offsets, by the first that differ.
+fn order_of_four(s: &[i32], a: usize, t: &[i32], b: usize) -> Order
+    requires { ⌜ (a + 4 ≤ length (now s)) × (b + 4 ≤ length (now t)) ⌝ }
+    ensures { λ r. ⌜ r ≡ four-order (now (s .entry)) a (now (t .entry)) b ⌝ }
+{
+    for i in 0..4 {
+        let p = s[a + i];
+        let q = t[b + i];
+        if p != q {
+            if p < q {
+                return Order::Before;
+            }
+            return Order::After;
+        }
+    }
+    Order::Same
+}
+
+// Whether the four numbers are the same. There is no way out of the loop, so that the compiler takes them together.
+fn same_four(s: &[i32], a: usize, t: &[i32], b: usize) -> bool
+    requires { ⌜ (a + 4 ≤ length (now s)) × (b + 4 ≤ length (now t)) ⌝ }
+    ensures { λ r. ⌜ r ≡ is-same (four-order (now (s .entry)) a (now (t .entry)) b) ⌝ }
+{
+    let mut same = true;
+    for i in 0..4 {
+        same = same & (s[a + i] == t[b + i]);
+    }
+    same
+}
+
+// Where the first block of four that differs begins, the front block left out: 4, 8 or 12; 16 where none does.
+fn first_other(s: &[i32], a: usize, t: &[i32], b: usize) -> usize
+    requires { ⌜ (a + entry-count ≤ length (now s)) × (b + entry-count ≤ length (now t)) ⌝ }
+    ensures { λ r. ⌜ r ≡ first-other (now (s .entry)) a (now (t .entry)) b ⌝ }
+{
+    if !same_four(s, a + 4, t, b + 4) {
+        return 4;
+    }
+    if !same_four(s, a + 8, t, b + 8) {
+        return 8;
+    }
+    if !same_four(s, a + 12, t, b + 12) {
+        return 12;
+    }
+    16
 }
 
 // ≤ 0, or < 0 if strict.
@@ -320,6 +402,16 @@ fn number_of_flag(b: bool) -> i32
     ensures { λ r. ⌜ r ≡ flag b ⌝ }
 {
     if b { 1 } else { 0 }
+}
+
+// A settled row, written at an offset of a store; the answer is what became of it.
+fn give(s: Settled, to: &mut [i32], at: usize) -> Fate
+    requires { ⌜ at + row-numbers ≤ length (now to) ⌝ }
+    ensures { λ r. ⌜ r ≡ s .fate ⌝ }
+    ensures { λ r. ⌜ now (to .exit) ≡ with-row (now (to .entry)) at (s .row) ⌝ }
+{
+    s.row.write(to, at);
+    s.fate
 }
 
 // A row without variables: gone where it is true, else 1 ≤ 0.

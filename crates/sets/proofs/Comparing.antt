@@ -1,31 +1,29 @@
 -- Numbers and rows of two stores compared, one by one: what a loop has seen of them decides the tests. Assumes nothing.
 use mathlib.Core.Path.{_≡_, refl, sym, ap, ap₂, _∙_}
-use mathlib.Core.Bool.{true, false}
+use mathlib.Core.Bool.{Bool, true, false, _&&_, and-assoc}
 use mathlib.Core.Logic.{⊎-elim}
 use mathlib.Core.List.{List, [], _∷_}
 use Prim.Native.Nat.{ℕ, _+_, _*_, _^_, _≤_, _<_, zero-le}
 use native.Mathlib.Nat.{eq-or-lt-of-le}
 use native.Mathlib.Numerals.{add-one}
-use native.Mathlib.Omega.{arith}
-use lib.ListN.{length, getD, take, drop, length-drop}
-use lib.Seq.{length-take-le, getD-take, getD-drop, ext-getD}
+use lib.Dec.{eqb}
+use lib.ListN.{length, getD, take, drop}
+use lib.Seq.{ext-getD}
 use lib.IntN.{ℤ, pos}
 use lib.Signed.{mag}
-use mir.Syntax.{Width}
-use mir.Val.{hbits, toZ, ofZ}
-use Rattle.integers.proofs.Bounds.{back}
+use mir.Syntax.{w32}
+use mir.Val.{ofZ}
+use Rattle.integers.proofs.Loops.{drop-turn, drop-done}
 use Rattle.integers.proofs.Tests.{not-both, and-left, and-right, false-of}
 use Rattle.rows.specs.declared.Row.{Row}
 use Rattle.rows.specs.Rows.{row-numbers, empty-row, number-order, numbers, row-at}
-use Rattle.rows.proofs.Ordering.{number-same, number-itself}
+use Rattle.rows.proofs.Blocks.{bits-order}
+use Rattle.rows.proofs.Ordering.{number-same, number-itself, order-same}
+use Rattle.rows.proofs.Stores.{getD-part, length-part, part-is}
 use Rattle.sets.specs.Sets.{is-same, same-rows, same-numbers}
 use Rattle.sets.specs.Stores.{rows-at, Stands}
 use Rattle.sets.proofs.Stores.{length-rows-at, getD-rows-at, row-alike, stands-row}
-use Rattle.sets.proofs.Tests.{order-same, same-rows-is, same-rows-itself}
-
--- signed numbers that fit are equal where their bits are
-pub bits-same : (w : Width) (x y : ℤ) → mag x < 2 ^ hbits w → mag y < 2 ^ hbits w → ofZ w x ≡ ofZ w y → x ≡ y
-bits-same w x y h k e = sym (back w x h) ∙ ap (toZ w) e ∙ back w y k
+use Rattle.sets.proofs.Tests.{same-rows-is, same-rows-itself}
 
 -- ---- numbers
 pub same-numbers-is : (l m : List ℤ) → same-numbers l m ≡ true → l ≡ m
@@ -42,23 +40,22 @@ unfolding same-numbers
 same-numbers-itself [] = refl
 same-numbers-itself (x ∷ l) = rw (number-itself x) (same-numbers-itself l)
 
-module _ (x y : List ℤ) (a b n : ℕ) (h : a + n ≤ length x) (k : b + n ≤ length y) where
-  getD-part : (s : List ℤ) (at i : ℕ) → i < n → getD (take n (drop at s)) i (pos 0) ≡ getD s (at + i) (pos 0)
-  getD-part s at i l = getD-take n (drop at s) i (pos 0) l ∙ getD-drop at s i (pos 0)
+-- a loop over n numbers that keeps a flag: the flag and the test of what is left
+abbrev pub rest-same : List ℤ → ℕ → List ℤ → ℕ → ℕ → ℕ → Bool
+rest-same x a y b n i = same-numbers (drop i (take n (drop a x))) (drop i (take n (drop b y)))
 
-  long : (s : List ℤ) (at : ℕ) → at + n ≤ length s → length (take n (drop at s)) ≡ n
-  long s at l = length-take-le n (drop at s) (rw length-drop (omega arith))
+module _ (x y : List ℤ) (a b n : ℕ) (h : a + n ≤ length x) (k : b + n ≤ length y) (i : ℕ) where
+  pub same-turn : (same : Bool) → i < n → mag (getD x (a + i) (pos 0)) < 2 ^ 31 → mag (getD y (b + i) (pos 0)) < 2 ^ 31 →
+      (same && eqb (ofZ w32 (getD x (a + i) (pos 0))) (ofZ w32 (getD y (b + i) (pos 0))) && rest-same x a y b n (i + 1)) ≡ (same && rest-same x a y b n i)
+  unfolding same-numbers
+  same-turn same l f g =
+      let d = drop-turn (take n (drop a x)) i (pos 0) (rw (length-part n a x h) l) in
+      let e = drop-turn (take n (drop b y)) i (pos 0) (rw (length-part n b y k) l) in
+      and-assoc same _ _ ∙ ap (λ (q : Bool). same && q) (rw (bits-order (getD x (a + i) (pos 0)) (getD y (b + i) (pos 0)) f g, d, e, getD-part n a x i l, getD-part n b y i l) refl)
 
-  pub numbers-agree : ((i : ℕ) → i < n → getD x (a + i) (pos 0) ≡ getD y (b + i) (pos 0)) → true ≡ same-numbers (take n (drop a x)) (take n (drop b y))
-  numbers-agree f =
-      let e : take n (drop a x) ≡ take n (drop b y) =
-      ext-getD (pos 0) (take n (drop a x)) (take n (drop b y)) (long x a h ∙ sym (long y b k))
-      (λ i l. let m : i < n = rw (long x a h) at l in getD-part x a i m ∙ f i m ∙ sym (getD-part y b i m)) in
-      rw e (sym (same-numbers-itself (take n (drop b y))))
-
-  pub numbers-differ : (i : ℕ) → i < n → (getD x (a + i) (pos 0) ≡ getD y (b + i) (pos 0) → ⊥) → false ≡ same-numbers (take n (drop a x)) (take n (drop b y))
-  numbers-differ i l f = sym (false-of (same-numbers (take n (drop a x)) (take n (drop b y))) (λ t.
-      f (sym (getD-part x a i l) ∙ ap (λ (m : List ℤ). getD m i (pos 0)) (same-numbers-is (take n (drop a x)) (take n (drop b y)) t) ∙ getD-part y b i l)))
+  pub same-done : n ≤ i → rest-same x a y b n i ≡ true
+  unfolding same-numbers
+  same-done l = rw (drop-done (take n (drop a x)) i (rw (length-part n a x h) l), drop-done (take n (drop b y)) i (rw (length-part n b y k) l)) refl
 
 -- ---- rows
 module _ (x y : List ℤ) (a b n : ℕ) where

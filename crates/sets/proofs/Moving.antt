@@ -1,43 +1,50 @@
--- Loops over the numbers of a store: numbers that move up by a row, a row put between others, whole rows cleared. Assumes nothing.
+-- Loops over the numbers of a store: rows that move up by a row, a row put between others, whole rows cleared. Assumes nothing.
 use mathlib.Core.Path.{_≡_, refl, sym, ap, _∙_}
-use mathlib.Core.List.{List, [], _∷_, _++_, append-assoc}
+use mathlib.Core.List.{List, _++_, append-assoc}
 use Prim.Native.Nat.{ℕ, suc, _+_, _-_, _≤_, _<_}
 use native.Mathlib.Nat.{div-mul-le-self}
 use native.Mathlib.Omega.{arith}
 use native.Mathlib.Numerals.{add-one}
 use lib.ListN.{length, getD, set, take, drop, length-drop, take-append-drop, List·getD-append}
-use lib.Seq.{paste, paste-suc, length-take-le, take-suc, drop-cons, set-at, getD-take, getD-drop, drop-at, drop-drop, take-take, take-append-le, append-snoc}
+use lib.Seq.{paste, paste-suc, length-take-le, getD-take, getD-drop, drop-at, drop-drop, take-take, take-add, take-append-le}
 use lib.IntN.{ℤ, pos}
 use Rattle.rows.specs.declared.Row.{Row}
 use Rattle.rows.specs.Rows.{row-numbers, numbers, with-row}
 use Rattle.sets.specs.Stores.{whole-numbers, zeroed}
+use Rattle.sets.proofs.Parts.{part-before}
 use Rattle.sets.proofs.Stores.{length-zeroed, getD-zeroed, drop-zeroed}
 
--- ---- the numbers from k to an end stand g places higher; the number below k moves next
-module _ (s t : List ℤ) (k end g : ℕ) (up : k < end) (room : end + g ≤ length s) (is : t ≡ paste s (k + 1 + g) (drop (k + 1) s) (end - (k + 1))) where
-  pub shift-read : 0 < g → getD t k (pos 0) ≡ getD s k (pos 0)
-  shift-read p =
-      let n = k + 1 + g in
-      let x = take (end - (k + 1)) (drop (k + 1) s) in
-      let l : k < length (take n s) = rw (length-take-le n s (omega arith)) (omega arith) in
-      rw (is, append-assoc (take n s) x (drop (n + (end - (k + 1))) s), List·getD-append (take n s) (x ++ drop (n + (end - (k + 1))) s) (pos 0) k l)
-      (getD-take n s k (pos 0) (omega arith))
+-- ---- numbers written once more, g places higher and the first of them first: what is read next was not written
+module _ (s t : List ℤ) (a g i : ℕ) (up : i < g) (room : a + g + g ≤ length s) (is : t ≡ paste s (a + g) (drop a s) i) where
+  pub copy-read : getD t (a + i) (pos 0) ≡ getD s (a + i) (pos 0)
+  copy-read =
+      let p = take (a + g) s in
+      let x = take i (drop a s) in
+      let y = drop (a + g + i) s in
+      let l : a + i < length p = rw (length-take-le (a + g) s (omega arith)) (omega arith) in
+      rw (is, append-assoc p x y, List·getD-append p (x ++ y) (pos 0) (a + i) l) (getD-take (a + g) s (a + i) (pos 0) (omega arith))
 
-  pub shift-more : (v : ℤ) → v ≡ getD s k (pos 0) → set t (k + g) v ≡ paste s (k + g) (drop k s) (end - k)
-  shift-more v e =
-      let n : k + 1 + g ≡ suc (k + g) = omega arith in
-      let m : end - k ≡ suc (end - (k + 1)) = omega arith in
-      let z : k + 1 + g + (end - (k + 1)) ≡ end + g = omega arith in
-      let w : k + g + (end - k) ≡ end + g = omega arith in
-      let x = take (end - (k + 1)) (drop (k + 1) s) in
-      let y = drop (end + g) s in
-      let p = take (k + g) s in
-      let a : take (k + 1 + g) s ≡ p ++ (getD s (k + g) (pos 0) ∷ []) = rw n (take-suc s (k + g) (pos 0) (omega arith)) in
-      let b : take (end - k) (drop k s) ≡ getD s k (pos 0) ∷ x = rw (m, drop-cons s k (pos 0) (omega arith), ← add-one k) refl in
-      let c : take (k + 1 + g) s ++ x ++ y ≡ p ++ getD s (k + g) (pos 0) ∷ (x ++ y) = rw a (ap (λ (l : List ℤ). l ++ y) (append-snoc p _ x) ∙ append-assoc p _ y) in
-      let d : take (k + g) s ++ take (end - k) (drop k s) ++ y ≡ p ++ v ∷ (x ++ y) = rw (b, e) (append-assoc p _ y) in
-      rw (is, z, w, c, d)
-      (set-at p (getD s (k + g) (pos 0)) (x ++ y) v (k + g) (length-take-le (k + g) s (omega arith)))
+  pub copy-more : (v : ℤ) → v ≡ getD s (a + i) (pos 0) → set t (a + g + i) v ≡ paste s (a + g) (drop a s) (i + 1)
+  copy-more v e = rw (is, e, ← getD-drop a s i (pos 0), add-one) (paste-suc s (a + g) (drop a s) i (pos 0) (omega arith) (rw length-drop (omega arith)))
+
+-- ---- the numbers from a + g to an end stand g places higher; the g numbers below them move next
+pub moved-more : (s t : List ℤ) (a end g : ℕ) → a + g ≤ end → end + g ≤ length s → t ≡ paste s (a + g + g) (drop (a + g) s) (end - (a + g)) →
+    take (a + g) t ++ take g (drop a t) ++ drop (a + g + g) t ≡ paste s (a + g) (drop a s) (end - a)
+moved-more s t a end g up room is =
+    let n = a + g + g in
+    let p = take n s in
+    let x = take (end - (a + g)) (drop (a + g) s) in
+    let y = drop (end + g) s in
+    let z : n + (end - (a + g)) ≡ end + g = omega arith in
+    let w : a + g + (end - a) ≡ end + g = omega arith in
+    let m : end - a ≡ g + (end - (a + g)) = omega arith in
+    let b : t ≡ p ++ (x ++ y) = (rw z at is) ∙ append-assoc p x y in
+    let l : length p ≡ n = length-take-le n s (omega arith) in
+    let c : take (a + g) t ≡ take (a + g) s = rw (b, take-append-le (a + g) p (x ++ y) (omega arith)) (take-take (a + g) n s (omega arith)) in
+    let d : take g (drop a t) ≡ take g (drop a s) = rw b (part-before s n (omega arith) (x ++ y) a g (omega arith)) in
+    let e : drop n t ≡ x ++ y = rw b (drop-at p (x ++ y) n l) in
+    let f : take (end - a) (drop a s) ≡ take g (drop a s) ++ x = rw (m, take-add g (end - (a + g)) (drop a s), drop-drop g a s) refl in
+    rw (c, d, e, w, f) (simp append-assoc)
 
 -- ---- whole rows cleared from m on, up to i
 module _ (s t : List ℤ) (m i : ℕ) (from : m ≤ i) (is : t ≡ paste s m (drop m (zeroed s)) (i - m)) where

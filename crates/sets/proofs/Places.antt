@@ -7,14 +7,18 @@ use mathlib.Core.List.{List, [], _∷_, _++_}
 use Prim.Native.Nat.{ℕ, zero, suc, _+_, _≤_, _<_, zero-le, suc-le-suc}
 use native.Mathlib.Nat.{le-of-suc-le-suc, not-suc-le-zero, zero-lt-suc, eq-or-lt-of-le}
 use native.Mathlib.Numerals.{add-one}
+use native.Mathlib.Omega.{arith}
+use lib.Dec.{lit<}
+use lib.IntN.{pos}
+use lib.Signed.{_<ℤ_}
 use lib.ListN.{length, getD, take, drop}
 use Rattle.integers.proofs.Tests.{false-of}
 use Rattle.integers.proofs.Lists.{all-head, all-in, all-append}
 use Rattle.rows.specs.declared.Row.{Row}
 use Rattle.rows.specs.declared.Order.{Order}
 use Rattle.rows.specs.declared.Order.the-variants.{Before, Same, After}
-use Rattle.rows.specs.Rows.{row-order}
-use Rattle.rows.proofs.Ordering.{row-same, row-trans, row-turned, turned, after-before, before-differs}
+use Rattle.rows.specs.Rows.{at, with-entry, false-row, row-order}
+use Rattle.rows.proofs.Ordering.{row-same, row-trans, row-turned, turned, after-before, before-differs, constant-after}
 use Rattle.sets.specs.declared.Place.{Place}
 use Rattle.sets.specs.declared.Place.the-variants.{Standing, At}
 use Rattle.sets.specs.Sets.{InOrder, place, insert, place-by, place-of, is-same, same-row, stands-in}
@@ -110,14 +114,14 @@ pub place-within : (r : Row) (l : List Row) (k : ℕ) → At k ≡ place-of r l 
 place-within r l k e = subst (λ (p : Place). Room p (length l)) (sym e) (place-room r l)
 
 -- ---- the row stands in the set exactly where its place says so
-abbrev pub is-standing : Place → Bool
+abbrev is-standing : Place → Bool
 is-standing Standing = true
 is-standing (At k) = false
 
 not-behind : (r : Row) {s : Row} {l : List Row} → InOrder (s ∷ l) → row-order r s ≡ Before → stands-in r l ≡ false
 not-behind r {s} {l} o e = false-of (stands-in r l) (λ t. before-differs r r (row-trans r s r e (all-in (first-before o) (stands-in-is r l t))) refl)
 
-pub standing-is : (r : Row) {l : List Row} → InOrder l → is-standing (place-of r l) ≡ stands-in r l
+standing-is : (r : Row) {l : List Row} → InOrder l → is-standing (place-of r l) ≡ stands-in r l
 unfolding place-of stands-in same-row
 standing-is r {l = []} o = refl
 standing-is r {l = s ∷ l} o = go (row-order r s) (place-of r l) refl (standing-is r (order-tail o))
@@ -127,3 +131,13 @@ standing-is r {l = s ∷ l} o = go (row-order r s) (place-of r l) refl (standing
     go Same p e h = refl
     go After Standing e h = h
     go After (At k) e h = h
+
+-- it does not stand in a set whose last row it stands behind
+pub behind-last : (r : Row) {l : List Row} → InOrder l → (d : Row) (k : ℕ) → length l ≡ k + 1 → row-order r (getD l k d) ≡ After → false ≡ stands-in r l
+behind-last r {l} o d k n e =
+    ap is-standing (place-at r l d (k + 1) (omega arith) (after-below r o d k (omega arith) e) (λ i h m. absurd (omega arith))) ∙ standing-is r o
+
+-- 1 ≤ 0 stands behind every row with a constant below 1
+pub false-after : (r : Row) → at (r .entries) 0 <ℤ pos 1 → row-order false-row r ≡ After
+unfolding with-entry
+false-after r h = constant-after false-row r (lit< tt) h

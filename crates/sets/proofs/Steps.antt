@@ -24,7 +24,7 @@ use Rattle.sets.specs.declared.Outcome.the-variants.{Found, Refused}
 use Rattle.sets.specs.declared.Joined.{Joined}
 use Rattle.sets.specs.Outcomes.{Result, found, refused, and-then}
 use Rattle.sets.specs.Sets.{InOrder, insert, place-of, put, joined-all, within-limit, joined}
-use Rattle.sets.specs.Stores.{numbers-of, rows-at, with-rows, set-in, HoldsSet, Touched, Left, next, so-far, progress, Standing-by, Ready, put-all}
+use Rattle.sets.specs.Stores.{numbers-of, rows-at, with-rows, set-in, HoldsSet, counted, Touched, Left, next, so-far, progress, Standing-by, Ready, put-all}
 use Rattle.sets.proofs.Parts.{drop-take}
 use Rattle.sets.proofs.Stores.{length-numbers-of, numbers-of-append, numbers-of-take, numbers-of-drop, length-rows-at, rows-with-rows, with-rows-itself, with-rows-twice, holds-with-rows, holds-wide, touched-none, touched-twice, touched-with-rows}
 use Rattle.sets.proofs.Ordered.{insert-ordered}
@@ -46,6 +46,12 @@ within-is : (t : List Row) → within-limit t ≡ cond (leb (length t) set-rows)
 unfolding within-limit
 within-is t = refl
 
+pub counted-few : (n : ℕ) → n ≤ set-rows → counted n ≡ record { rows = n; outcome = Found }
+counted-few n h = rw (le-leb n set-rows h)
+
+pub counted-many : (n : ℕ) → set-rows < n → counted n ≡ record { rows = 0; outcome = Refused TooManyRows }
+counted-many n h = rw (lt-leb n set-rows h)
+
 -- ---- a row inserted
 length-between : (r : Row) (l : List Row) (k : ℕ) → k ≤ length l → length (take k l ++ r ∷ drop k l) ≡ length l + 1
 length-between r l k h = omega (arith, length-append (take k l) (r ∷ drop k l), length-take-le k l h, length-drop k l)
@@ -58,9 +64,9 @@ module _ (s : List ℤ) (n : ℕ) (r : Row) (holds : HoldsSet s n) where
   count = length-rows-at s 0 n
 
   -- it stands there: nothing changes
-  pub left-standing : Standing ≡ place-of r rows → Left (within-limit (insert r rows)) s s (record { rows = n; outcome = Found })
+  pub left-standing : Standing ≡ place-of r rows → Left (within-limit (insert r rows)) s s (counted n)
   left-standing e =
-      rw (insert-standing r rows e, within-few rows (rw count (holds .few)))
+      rw (insert-standing r rows e, within-few rows (rw count (holds .few)), counted-few n (holds .few))
       (record { answer = rw count refl; store = sym (with-rows-itself s n (holds .stands)) })
 
   module _ (k : ℕ) (place : At k ≡ place-of r rows) where
@@ -71,8 +77,8 @@ module _ (s : List ℤ) (n : ℕ) (r : Row) (holds : HoldsSet s n) where
     grown = rw (insert-at r rows k place, length-between r rows k (place-within r rows k place), count)
 
     -- it would be the 129th
-    pub left-full : n ≡ set-rows → Left (within-limit (insert r rows)) s s (record { rows = 0; outcome = Refused TooManyRows })
-    left-full e = rw (within-many (insert r rows) (omega (arith, grown))) (record { answer = refl; store = touched-none s })
+    pub left-full : n ≡ set-rows → Left (within-limit (insert r rows)) s s (counted (n + 1))
+    left-full e = rw (within-many (insert r rows) (omega (arith, grown)), counted-many (n + 1) (omega arith)) (record { answer = refl; store = touched-none s })
 
     -- the rows behind it move up, and it is written between
     module _ (wide : Wide r) (few : n < set-rows) where
@@ -102,13 +108,13 @@ module _ (s : List ℤ) (n : ℕ) (r : Row) (holds : HoldsSet s n) where
 
       pub left-inserted : (t u : List ℤ) →
           t ≡ take (k * row-numbers + row-numbers) s ++ take (n * row-numbers - k * row-numbers) (drop (k * row-numbers) s) ++ drop (n * row-numbers + row-numbers) s →
-          u ≡ with-row t (k * row-numbers) r → Left (within-limit (insert r rows)) s u (record { rows = n + 1; outcome = Found })
+          u ≡ with-row t (k * row-numbers) r → Left (within-limit (insert r rows)) s u (counted (n + 1))
       unfolding with-rows
       left-inserted t u e f =
           let a = k * row-numbers in
           let b = n * row-numbers in
           let room : b + row-numbers ≤ length s = omega (arith, holds .long) in
-          rw (within-few (insert r rows) (omega (arith, grown)))
+          rw (within-few (insert r rows) (omega (arith, grown)), counted-few (n + 1) (omega arith))
           (record {
             answer = rw grown refl;
             store =
@@ -126,18 +132,18 @@ pub ready-left : (s : List ℤ) (c : Joined) → Ready s c → Left (progress s 
 ready-left s c h = so-far-left s (c .rows) (c .outcome) (h .holds)
 
 -- by what became of the row, and by the outcome so far
-module _ (s : List ℤ) (c : Joined) (f : Fate) (r : Row) where
-  pub put-gone : Ready s c → f ≡ Gone → Left (next f r (progress s c)) s s c
-  put-gone h e = rw e (ready-left s c h)
+module _ (s : List ℤ) (c : Joined) (r : Row) where
+  pub put-gone : (f : Fate) → Ready s c → f ≡ Gone → Left (next f r (progress s c)) s s c
+  put-gone f h e = rw e (ready-left s c h)
 
-  pub put-large : f ≡ TooLarge → Left (next f r (progress s c)) s s (record { rows = 0; outcome = Refused EntryTooLarge })
-  put-large e = rw e (record { answer = refl; store = touched-none s })
+  pub put-large : (f : Fate) → f ≡ TooLarge → Left (next f r (progress s c)) s s (record { rows = 0; outcome = Refused EntryTooLarge })
+  put-large f e = rw e (record { answer = refl; store = touched-none s })
 
-  pub put-refused : Ready s c → f ≡ Kept → (q : Refusal) → c .outcome ≡ Refused q → Left (next f r (progress s c)) s s c
-  put-refused h e q d = rw (e, d) (rw d at (ready-left s c h))
+  pub put-refused : Ready s c → (q : Refusal) → c .outcome ≡ Refused q → Left (next Kept r (progress s c)) s s c
+  put-refused h q d = rw d (rw d at (ready-left s c h))
 
-  pub put-kept : f ≡ Kept → c .outcome ≡ Found → (s′ : List ℤ) (x : Joined) → Left (within-limit (insert r (set-in s (c .rows)))) s s′ x → Left (next f r (progress s c)) s s′ x
-  put-kept e d s′ x h = rw (e, d) h
+  pub put-inserted : c .outcome ≡ Found → (s′ : List ℤ) (x : Joined) → Left (within-limit (insert r (set-in s (c .rows)))) s s′ x → Left (next Kept r (progress s c)) s s′ x
+  put-inserted d s′ x h = rw d h
 
 pub ready-start : {s : List ℤ} {n : ℕ} → HoldsSet s n → Ready s (record { rows = n; outcome = Found })
 ready-start h = record { long = h .long; holds = h }
@@ -308,9 +314,6 @@ put-all-grows (r ∷ rs) x =
     let y = next (divided-down r .fate) (divided-down r .row) x in
     grows-twice x y (put-all rs y) (next-grows (divided-down r .fate) (divided-down r .row) x) (put-all-grows rs y)
 
-pub joined-longer : (rs t : List Row) → length t ≤ set-rows → Grows (found t) (joined rs t)
-joined-longer rs t h = rw (← joined-put-all rs t h) (put-all-grows rs (found t))
-
 -- after rows were joined: what the answer says, that a further row may be put, and what has become of the store since the first step
 module _ (rs : List Row) (wide : All Wide rs) (s s′ : List ℤ) (c c′ : Joined) (ready : Ready s c) (left : Left (put-all rs (progress s c)) s s′ c′) where
   all-proper : Proper (put-all rs (progress s c))
@@ -354,14 +357,18 @@ module _ (from : List ℤ) (at m i : ℕ) where
       let f : at + (i + 1) * row-numbers ≡ at + i * row-numbers + row-numbers = omega arith in
       rw (e, f)
 
+  pub rows-done : m ≤ i → rows-at from (at + i * row-numbers) (m - i) ≡ []
+  unfolding rows-at
+  rows-done h = let e : m - i ≡ 0 = omega arith in rw e
+
   pub put-all-row : i < m → (x y : Result (List Row)) → y ≡ next (divided-down (row-at from (at + i * row-numbers)) .fate) (divided-down (row-at from (at + i * row-numbers)) .row) x →
       put-all (rows-at from (at + (i + 1) * row-numbers) (m - (i + 1))) y ≡ put-all (rows-at from (at + i * row-numbers) (m - i)) x
   unfolding put-all
   put-all-row h x y e = rw (rows-left h, e)
 
   pub put-all-done : m ≤ i → (x : Result (List Row)) → put-all (rows-at from (at + i * row-numbers) (m - i)) x ≡ x
-  unfolding put-all rows-at
-  put-all-done h x = let e : m - i ≡ 0 = omega arith in rw e
+  unfolding put-all
+  put-all-done h x = rw (rows-done h)
 
 pub put-all-start : (from : List ℤ) (at m : ℕ) (t : List Row) → length t ≤ set-rows → put-all (rows-at from (at + 0 * row-numbers) (m - 0)) (found t) ≡ joined (rows-at from at m) t
 put-all-start from at m t h = rw (add-zero, sub-zero) (joined-put-all (rows-at from at m) t h)

@@ -1,19 +1,20 @@
 -- Rows in a store: the numbers of a list of rows, the rows that are read back, a set written at the front, a store that is cleared, and
 -- what may have been touched. Assumes nothing.
 use mathlib.Core.Path.{_≡_, refl, sym, ap, ap₂, subst, _∙_}
-use mathlib.Core.Bool.{Bool, true, false}
 use mathlib.Core.List.{List, [], _∷_, _++_, append-assoc, append-nil}
 use Prim.Native.Nat.{ℕ, zero, suc, _+_, _-_, _*_, _≤_, _<_, zero-le}
 use native.Mathlib.Nat.{le-of-suc-le-suc, not-suc-le-zero, add-zero, zero-add, suc-add, add-sub-of-le, add-sub-cancel-left, le-add-right, div-mul-le-self}
 use lib.Dec.{lit<, lit≤}
 use native.Mathlib.Omega.{arith}
-use lib.ListN.{length, getD, take, drop, replicate, length-append, length-drop, length-replicate, take-append-drop, getD-replicate, List·getD-append}
-use lib.Seq.{length-take-le, getD-take, getD-drop, getD-at, take-at, drop-at, take-take, drop-drop}
+use lib.ListN.{length, getD, set, take, drop, replicate, length-append, length-drop, length-replicate, take-append-drop, getD-replicate, List·getD-append}
+use lib.Seq.{take-set-lt, getD-set-other, length-take-le, take-at, drop-at, take-take, drop-drop}
 use lib.IntN.{ℤ, pos}
 use Rattle.integers.specs.Lists.{All, nil, cons}
+use Rattle.entries.proofs.Sums.{with-set}
 use Rattle.rows.specs.declared.Row.{Row}
-use Rattle.rows.specs.Rows.{entry-count, empty-row, row-numbers, set-rows, set-numbers, Small, flag, is-one, numbers, row-at, with-row}
+use Rattle.rows.specs.Rows.{entry-count, empty-row, row-numbers, set-rows, set-numbers, Small, single, is-one, numbers, row-at, with-row}
 use Rattle.rows.proofs.Dividing.{Wide}
+use Rattle.rows.proofs.Stores.{getD-part, length-part, row-back}
 use Rattle.sets.specs.Sets.{InOrder, none}
 use Rattle.sets.specs.Stores.{numbers-of, rows-at, whole-numbers, zeroed, with-rows, set-in, Stands, HoldsSet, Touched}
 use Rattle.sets.proofs.Parts.{all-at, drop-take, alike-front, alike-behind, part-before, part-written, part-after, all-take}
@@ -79,7 +80,7 @@ module _ (s : List ℤ) (at n k : ℕ) (h : k ≤ n) where
 
 -- a row that is read has 16 entries
 pub wide-row-at : (s : List ℤ) (at : ℕ) → at + row-numbers ≤ length s → Wide (row-at s at)
-wide-row-at s at h = length-take-le entry-count (drop at s) (rw length-drop (omega arith))
+wide-row-at s at h = length-part entry-count at s (omega arith)
 
 pub wide-rows-at : (s : List ℤ) (at n : ℕ) → at + n * row-numbers ≤ length s → All Wide (rows-at s at n)
 unfolding rows-at
@@ -90,8 +91,7 @@ wide-rows-at s at (suc n) h = cons (wide-row-at s at (omega arith)) (wide-rows-a
 row-part : (s : List ℤ) (at : ℕ) → row-at s at ≡ row-at (take row-numbers (drop at s)) 0
 row-part s at =
     let e : take entry-count (drop at s) ≡ take entry-count (take row-numbers (drop at s)) = sym (take-take entry-count row-numbers (drop at s) (lit≤ tt)) in
-    let f : getD s (at + entry-count) (pos 0) ≡ getD (take row-numbers (drop at s)) entry-count (pos 0) =
-    sym (getD-take row-numbers (drop at s) entry-count (pos 0) (lit< tt) ∙ getD-drop at s entry-count (pos 0)) in
+    let f : getD s (at + entry-count) (pos 0) ≡ getD (take row-numbers (drop at s)) entry-count (pos 0) = sym (getD-part row-numbers at s entry-count (lit< tt)) in
     λ i. record { entries = e i; strict = is-one (f i) }
 
 pub row-alike : (s t : List ℤ) (a b : ℕ) → take row-numbers (drop a s) ≡ take row-numbers (drop b t) → row-at s a ≡ row-at t b
@@ -108,17 +108,13 @@ rows-alike (suc n) s t a b e =
     (rows-alike n s t (a + row-numbers) (b + row-numbers) (alike-behind s t a b row-numbers (n * row-numbers) f))
 
 -- ---- rows that were written are read back
-flag-back : (b : Bool) → is-one (flag b) ≡ b
-flag-back false = refl
-flag-back true = refl
-
-pub row-back : (r : Row) (t : List ℤ) → Wide r → row-at (numbers r ++ t) 0 ≡ r
-row-back r t h =
-    let a = append-assoc (r .entries) (flag (r .strict) ∷ []) t in
-    let e : take entry-count (numbers r ++ t) ≡ r .entries = ap (λ (l : List ℤ). take entry-count l) a ∙ take-at (r .entries) (flag (r .strict) ∷ t) entry-count h in
-    let f : getD (numbers r ++ t) entry-count (pos 0) ≡ flag (r .strict) = ap (λ (l : List ℤ). getD l entry-count (pos 0)) a ∙ getD-at (r .entries) (flag (r .strict)) t (pos 0) entry-count h in
-    let g : is-one (getD (numbers r ++ t) entry-count (pos 0)) ≡ r .strict = ap is-one f ∙ flag-back (r .strict) in
-    λ i. record { entries = e i; strict = g i }
+-- one number set among 17 zeros
+pub row-of-single : (v : ℕ) (z : ℤ) → v < entry-count → row-at (set (replicate row-numbers (pos 0)) v z) 0 ≡ single v z
+row-of-single v z h =
+    let s = replicate row-numbers (pos 0) in
+    let e : take entry-count (set s v z) ≡ single v z .entries = take-set-lt entry-count s v z h ∙ sym (with-set v z (replicate entry-count (pos 0)) h) in
+    let f : getD (set s v z) entry-count (pos 0) ≡ pos 0 = getD-set-other s v entry-count z (pos 0) (λ k. absurd (omega arith)) in
+    λ i. record { entries = e i; strict = is-one (f i) }
 
 pub rows-of-numbers : {rs : List Row} → All Wide rs → (t : List ℤ) → rows-at (numbers-of rs ++ t) 0 (length rs) ≡ rs
 unfolding numbers-of rows-at
@@ -162,7 +158,7 @@ module _ (from to x : List ℤ) (a b n : ℕ) (h : a + n * row-numbers ≤ lengt
   copied : take (n * row-numbers) (drop b (take b to ++ take (n * row-numbers) (drop a from) ++ x)) ≡ take (n * row-numbers) (drop a from)
   copied =
       let y = take (n * row-numbers) (drop a from) in
-      let e : length y ≡ n * row-numbers = length-take-le (n * row-numbers) (drop a from) (rw length-drop (omega arith)) in
+      let e : length y ≡ n * row-numbers = length-part (n * row-numbers) a from h in
       ap (λ (k : ℕ). take k (drop b (take b to ++ y ++ x))) (sym e) ∙ part-written to b k y x
 
   pub rows-copied : rows-at (take b to ++ take (n * row-numbers) (drop a from) ++ x) b n ≡ rows-at from a n
@@ -319,9 +315,6 @@ pub zeroed-alike : (s t : List ℤ) → length t ≡ length s → drop (whole-nu
 unfolding zeroed
 zeroed-alike s t e f = rw (e, f)
 
-pub zeroed-twice : (s : List ℤ) → zeroed (zeroed s) ≡ zeroed s
-zeroed-twice s = zeroed-alike s (zeroed s) (length-zeroed s) (drop-zeroed s)
-
 -- so it does not matter what was done to a store within a set's room
 pub zeroed-touched : {s t : List ℤ} → set-numbers ≤ length s → Touched s t → zeroed t ≡ zeroed s
 zeroed-touched {s} {t} h e =
@@ -331,10 +324,3 @@ zeroed-touched {s} {t} h e =
     let f : drop (set-numbers + (w - set-numbers)) t ≡ drop (set-numbers + (w - set-numbers)) s =
     sym (drop-drop (w - set-numbers) set-numbers t) ∙ ap (λ (l : List ℤ). drop (w - set-numbers) l) (e .beyond) ∙ drop-drop (w - set-numbers) set-numbers s in
     zeroed-alike s t (e .long) (rw m at f)
-
--- a set at the front and zeros behind it, as `clear_from` leaves them
-pub with-rows-cleared : (t : List Row) (s : List ℤ) → All Wide t → length t ≤ set-rows → set-numbers ≤ length s →
-    take (length t * row-numbers) (with-rows t s) ++ drop (length t * row-numbers) (zeroed (with-rows t s)) ≡ with-rows t (zeroed s)
-unfolding with-rows
-with-rows-cleared t s w f l =
-    rw (take-with-rows t s w, zeroed-touched l (touched-with-rows t s w f l), length-numbers-of w)

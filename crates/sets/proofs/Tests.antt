@@ -1,4 +1,4 @@
--- The tests on sets read as facts: the same row, a row that stands in a list, the same rows, a false row. Assumes nothing.
+-- The tests on sets read as facts: a row that stands in a list, the same rows, a false row. Assumes nothing.
 use mathlib.Core.Path.{_≡_, refl, ap₂}
 use mathlib.Core.Bool.{Bool, true, false, _||_}
 use mathlib.Core.Logic.{⊎-elim}
@@ -9,25 +9,10 @@ use Rattle.integers.specs.Lists.{All, In, here, there}
 use Rattle.integers.proofs.Tests.{not-both, and-left, and-right, or-true}
 use Rattle.integers.proofs.Lists.{all-in}
 use Rattle.rows.specs.declared.Row.{Row}
-use Rattle.rows.specs.declared.Order.{Order}
-use Rattle.rows.specs.declared.Order.the-variants.{Before, Same, After}
-use Rattle.rows.specs.Rows.{at, Holds, false-row, row-order}
-use Rattle.rows.proofs.Ordering.{row-same, row-itself}
+use Rattle.rows.specs.Rows.{at, Holds, false-row, same-row}
+use Rattle.rows.proofs.Ordering.{same-row-is, same-row-itself}
 use Rattle.rows.proofs.Dividing.{never}
-use Rattle.sets.specs.Sets.{is-same, same-row, stands-in, same-rows, any-false}
-
-pub order-same : (o : Order) → is-same o ≡ true → o ≡ Same
-order-same Before e = not-both e
-order-same Same e = refl
-order-same After e = not-both e
-
-pub same-row-is : (r s : Row) → same-row r s ≡ true → r ≡ s
-unfolding same-row
-same-row-is r s e = row-same r s (order-same (row-order r s) e)
-
-pub same-row-itself : (r : Row) → same-row r r ≡ true
-unfolding same-row
-same-row-itself r = rw (row-itself r) refl
+use Rattle.sets.specs.Sets.{stands-in, same-rows, any-false}
 
 pub stands-in-is : (r : Row) (l : List Row) → stands-in r l ≡ true → In r l
 unfolding stands-in

@@ -13,9 +13,10 @@ use Rattle.rows.specs.declared.Settled.{Settled}
 use Rattle.rows.specs.declared.Order.{Order}
 use Rattle.rows.specs.declared.Order.the-variants.{Before, Same, After}
 use Rattle.rows.specs.Rows.{set-rows, false-row, divided-down, number-order, row-order}
+pub use Rattle.rows.specs.Rows.{is-same}
+unfoldable pub use Rattle.rows.specs.Rows.{same-row}
 use Rattle.sets.specs.declared.Place.{Place}
 use Rattle.sets.specs.declared.Place.the-variants.{Standing, At}
-use Rattle.sets.specs.declared.Refusal.{Refusal}
 use Rattle.sets.specs.declared.Refusal.the-variants.{EntryTooLarge, TooManyRows}
 use Rattle.sets.specs.Outcomes.{Result, found, refused, and-then}
 
@@ -69,14 +70,6 @@ unfoldable pub joined : List Row → List Row → Result (List Row)
 joined rs s = and-then (joined-all rs s) within-limit
 
 -- ---- tests on sets
-abbrev pub is-same : Order → Bool
-is-same Before = false
-is-same Same = true
-is-same After = false
-
-unfoldable pub same-row : Row → Row → Bool
-same-row r s = is-same (row-order r s)
-
 unfoldable pub stands-in : Row → List Row → Bool
 stands-in r [] = false
 stands-in r (s ∷ rest) = same-row r s || stands-in r rest

@@ -1,7 +1,9 @@
 -- Rows in lent stores (rules, "Rows and sets" and "Numbers of the outcomes"): 17 numbers a row, from the front.
 use mathlib.Core.Path.{_≡_}
+use mathlib.Core.Bool.{cond}
 use mathlib.Core.List.{List, [], _∷_, _++_}
 use Prim.Native.Nat.{ℕ, zero, suc, _+_, _*_, _/_, _≤_}
+use lib.Dec.{leb}
 use lib.ListN.{length, take, drop, replicate}
 use lib.IntN.{ℤ, pos}
 use Rattle.integers.specs.Lists.{All}
@@ -11,7 +13,7 @@ use Rattle.rows.specs.declared.Fate.the-variants.{Kept, Gone, TooLarge}
 use Rattle.rows.specs.Rows.{row-numbers, set-rows, set-numbers, Small, divided-down, numbers, row-at}
 use Rattle.sets.specs.declared.Outcome.{Outcome}
 use Rattle.sets.specs.declared.Outcome.the-variants.{Found, Refused}
-use Rattle.sets.specs.declared.Refusal.the-variants.{EntryTooLarge}
+use Rattle.sets.specs.declared.Refusal.the-variants.{EntryTooLarge, TooManyRows}
 use Rattle.sets.specs.declared.Joined.{Joined}
 use Rattle.sets.specs.Outcomes.{Result, found, refused}
 use Rattle.sets.specs.Sets.{InOrder, insert, within-limit}
@@ -59,6 +61,10 @@ pub record HoldsSet (s : List ℤ) (n : ℕ) : Type 0 where
 abbrev pub answer-of : Result (List Row) → Joined
 answer-of (found t) = record { rows = length t; outcome = Found }
 answer-of (refused r) = record { rows = 0; outcome = Refused r }
+
+-- so many rows, or 10
+abbrev pub counted : ℕ → Joined
+counted n = cond (leb n set-rows) (record { rows = n; outcome = Found }) (record { rows = 0; outcome = Refused TooManyRows })
 
 -- only the first 2,176 numbers may have changed
 pub record Touched (s s′ : List ℤ) : Type 0 where

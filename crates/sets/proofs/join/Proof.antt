@@ -8,7 +8,7 @@ use denote.Ref.{now}
 use Rattle.rows.specs.Rows.{divided-down, row-at}
 use Rattle.rows.proofs.Dividing.{divided-down-small, divided-down-wide}
 use Rattle.sets.specs.Sets.{joined}
-use Rattle.sets.specs.Stores.{rows-at, set-in, Left, next, progress, Ready, put-all}
+use Rattle.sets.specs.Stores.{rows-at, set-in, Left, progress, Ready, put-all}
 use Rattle.sets.proofs.Stores.{wide-row-at, length-rows-at}
 use Rattle.sets.proofs.Steps.{ready-start, ready-left, put-progress, put-ready, put-left, put-all-start, put-all-row, put-all-done}
 use Rattle.sets.proofs.join.Statement.{statement}
@@ -36,20 +36,16 @@ loop-holds c =
       put-all-start (now (z .from)) (z .at) (z .m) (set-in s (z .n)) (rw length-rows-at (h .few)),
     )
 
--- in a turn: where the row is read, and what was put
-settled : (c : tie.After-divided-down Inv-loop μ-loop) → (let l = c .before .before .before .before in let z = l .before .before .args in c .divided-down .result ≡ divided-down (row-at (now (z .from)) (z .at + l .loop .i * 17)))
-settled c = rw (c .before .read .ensures) at (c .divided-down .ensures)
-
 loop-again : tie.Need-loop-again Inv-loop μ-loop
 loop-again c =
-    let p = c .before in
-    let t = p .before .before .before .before in
+    let j = c .before in
+    let t = j .before .before in
     let l = t .before in
     let b = l .before .before in
     let z = b .args in
     let r = row-at (now (z .from)) (z .at + l .loop .i * 17) in
     let x = divided-down r in
-    let d : Left (next (x .fate) (x .row) (progress (l .loop .to) (l .loop .c))) (l .loop .to) (p .put .last .0) (p .put .result) = rw (settled (p .before)) at (p .put .ensures) in
+    let d = j .join-row .ensures in
     let small = divided-down-small r in
     let wide = divided-down-wide r (wide-row-at (now (z .from)) (z .at + l .loop .i * 17) (omega (arith, b .pre .0, t .loop-test .taken))) in
     let ready = l .loop .inv .2 in (
@@ -72,11 +68,9 @@ join-spec =
     (tie.spec Inv-loop μ-loop
     (λ c κs. search needs)
     loop-holds
-    (λ c. omega (arith, c .before .before .before .before .pre .0))
-    (λ c. omega (arith, c .before .before .before .before .pre .0))
-    (λ c κs. omega (arith, c .before .before .before .before .pre .0))
-    (λ c κs. search needs)
-    (λ c κs. c .before .before .before .before .loop .inv .2)
+    (λ c. omega (arith, c .before .before .before .pre .0))
+    (λ c. omega (arith, c .before .before .before .pre .0))
+    (λ c κs. (omega (arith, c .before .before .before .before .pre .0), c .before .before .loop .inv .2))
     (λ c. search needs)
     (λ c. search needs)
     loop-again

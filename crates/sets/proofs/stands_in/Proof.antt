@@ -1,22 +1,57 @@
--- `sets::stands_in` meets its contract. Assumes nothing.
-use mathlib.Core.Path.{_≡_, sym, ap, _∙_}
+-- `sets::stands_in` meets its contract: whether it is among the rows left stays whether it is among all. Assumes nothing.
+use mathlib.Core.Path.{_≡_, refl}
+use mathlib.Core.Bool.{_||_}
+use Prim.Native.Nat.{_+_, _-_, _*_, _≤_}
+use native.Mathlib.Nat.{zero-add, sub-zero}
+use native.Mathlib.Omega.{arith}
 use borrow.Author.Needs.{needs}
 use denote.Ref.{now}
 use Rattle.sets.specs.Sets.{stands-in}
-use Rattle.sets.specs.Stores.{set-in}
-use Rattle.sets.proofs.Places.{is-standing, standing-is}
+use Rattle.sets.specs.Stores.{rows-at, set-in}
+use Rattle.sets.proofs.Steps.{rows-left, rows-done}
 use Rattle.sets.proofs.stands_in.Statement.{statement}
 use Rattle.sets.proofs.stands_in.Tie as tie
 
--- what the place that was found says
-told : (c : tie.After-find) → is-standing (c .find .result) ≡ stands-in (c .before .args .r) (set-in (now (c .before .args .s)) (c .before .args .n))
-told c = ap is-standing (c .find .ensures) ∙ standing-is (c .before .args .r) (c .before .pre .ordered)
+abbrev Inv-loop : tie.InvT-loop
+Inv-loop s n r i₀ i = (i ≤ n) × (stands-in r (rows-at s (0 + i * 17) (n - i)) ≡ stands-in r (set-in s n))
 
-returns : tie.Need-returns
-returns c = ap is-standing (sym (c .enum-told .given .1)) ∙ told (c .before .before)
+abbrev μ-loop : tie.MeasureT-loop
+μ-loop s n r i₀ i = n - i
 
-returns-2 : tie.Need-returns-2
-returns-2 c = ap is-standing (sym (c .enum-told2 .given .1)) ∙ told (c .before .before)
+loop-holds : tie.Need-loop-holds Inv-loop μ-loop
+loop-holds c = (search needs, rw sub-zero refl)
+
+-- in a turn: the row that comes next, and the test on it
+next-row : (c : tie.After-is-at Inv-loop μ-loop) → (let l = c .before .before in let z = l .before .args in let s = now (z .s) in
+    (c .is-at .result || stands-in (z .r) (rows-at s (0 + (l .loop .i + 1) * 17) (z .n - (l .loop .i + 1)))) ≡ stands-in (z .r) (set-in s (z .n)))
+unfolding stands-in
+next-row c =
+    let l = c .before .before in
+    let z = l .before .args in
+    rw (c .is-at .ensures) (rw (rows-left (now (z .s)) 0 (z .n) (l .loop .i) (c .before .loop-test .taken), zero-add (l .loop .i * 17)) at (l .loop .inv .1))
+
+returns : tie.Need-returns Inv-loop μ-loop
+returns c = rw (c .if1 .taken) at (next-row (c .before))
+
+loop-again : tie.Need-loop-again Inv-loop μ-loop
+loop-again c = (search needs, rw (c .if1 .left) at (next-row (c .before)))
+
+returns-2 : tie.Need-returns-2 Inv-loop μ-loop
+unfolding stands-in
+returns-2 c =
+    let l = c .before in
+    let z = l .before .args in
+    rw (rows-done (now (z .s)) 0 (z .n) (l .loop .i) (omega arith)) at (l .loop .inv .1)
 
 pub stands-in-spec : {M : Type 1} → statement M
-stands-in-spec = tie.close (tie.spec (λ c κs. search needs) (λ c. search needs) (λ c. search needs) returns returns-2)
+stands-in-spec =
+    tie.close
+    (tie.spec Inv-loop μ-loop
+    loop-holds
+    (λ c. omega (arith, c .before .before .pre .few))
+    (λ c κs. omega (arith, c .before .before .pre .stands .room))
+    returns
+    (λ c. omega arith)
+    (λ c. omega arith)
+    loop-again
+    returns-2)

@@ -1,22 +1,29 @@
--- `rows::Row::divided_down` meets its contract. Assumes nothing.
-use mathlib.Core.Path.{_≡_, refl, sym, ap, _∙_}
-use Prim.Native.Nat.{ℕ, _≤_}
-use native.Mathlib.Omega.{arith}
+-- `rows::Row::divided_down` meets its contract: what was written is read back. Assumes nothing.
+use mathlib.Core.Path.{_≡_}
+use mathlib.Core.List.{[]}
 use borrow.Author.Needs.{needs}
-use lib.ListN.{getD}
-use lib.IntN.{pos, natAbs}
-use Rattle.integers.proofs.Elements.{i32-field}
+use lib.ListN.{length}
+use Rattle.rows.specs.Rows.{divided-down}
+use Rattle.rows.proofs.Dividing.{settled-wide}
+use Rattle.rows.proofs.Stores.{row-back}
 use Rattle.rows.proofs.Row.divided_down.Statement.{statement}
 use Rattle.rows.proofs.Row.divided_down.Tie as tie
 
-entry : (c : tie.Start) (i : ℕ) → natAbs (getD (c .args .self .entries) i (pos 0)) ≤ 2147483648
-entry c i = search i32-field
-
-lowered-requires : tie.Need-lowered-requires
-lowered-requires c κs i = rw (c .widened .ensures) (omega (arith, entry (c .before .before) i))
+long : (c : tie.Start) → length (c .args .self .entries) ≡ 16
+long c = search needs
 
 returns : tie.Need-returns
-returns c = rw (c .before .widened .ensures) at (c .lowered .ensures)
+returns c =
+    let d = c .before .before .before in
+    let r = d .before .before .args .self in
+    rw (d .divided-into .ensures .0, c .read .ensures, d .divided-into .ensures .1, row-back (divided-down r .row) [] (settled-wide r (long (d .before .before))))
 
 pub divided-down-spec : {M : Type 1} → statement M
-divided-down-spec = tie.close (tie.spec (λ c κs. search needs) lowered-requires returns)
+divided-down-spec =
+    tie.close
+    (tie.spec
+    (λ c. search needs)
+    (λ c κs. search needs)
+    (λ c. search needs)
+    (λ c κs. search needs)
+    returns)
