@@ -54,11 +54,14 @@ pub fn gcd_of(a: u64, b: u64) -> u64
     x
 }
 
-// Inner step: the quotient towards zero; exact where the divisor divides the number (proofs/Euclid, quot-exact).
+// Inner step: the quotient towards zero; exact where the divisor divides the number (proofs/Euclid, quot-exact). Most entries are 0, and a division takes long.
 pub fn quotient(x: i64, d: u64) -> i64
     requires { ⌜ (natAbs x < 2 ^ 63) × (0 < d) × (d < 2 ^ 63) ⌝ }
     ensures { λ r. ⌜ r ≡ quotZ x (pos d) ⌝ }
 {
+    if x == 0 {
+        return 0;
+    }
     x / (d as i64)
 }
 
