@@ -5,7 +5,7 @@ ghost use Prim.Native.Nat.{_+_, _≤_, _<_, _^_};
 ghost use lib.Dec.{leb};
 ghost use lib.ListN.{length};
 ghost use Rattle.integers.specs.Limits.{given-limit};
-ghost use Rattle.rows.specs.Rows.{entry-count, row-numbers, set-rows, set-numbers, parameter-entry, clock-entry, delay-entry, empty-row, single, false-row, dot, under, holds-at, Within, Small, negated, constant, divided-down, paired, added, has-one, is-same, flag-order, row-order, same-row, flag, row-at, with-row};
+ghost use Rattle.rows.specs.Rows.{entry-count, row-numbers, set-rows, set-numbers, parameter-entry, clock-entry, empty-row, single, false-row, dot, under, holds-at, Within, Small, negated, constant, divided-down, paired, added, has-one, is-same, flag-order, row-order, same-row, flag, row-at, with-row};
 ghost use Rattle.rows.specs.Blocks.{four-order, first-other};
 
 pub struct Row {
@@ -130,13 +130,6 @@ impl Row {
         ensures { λ r. ⌜ r ≡ single (parameter-entry p) x ⌝ }
     {
         Row::single(p.entry(), x)
-    }
-
-    // x times the delay is ≤ 0.
-    pub fn of_delay(x: i32) -> Row
-        ensures { λ r. ⌜ r ≡ single delay-entry x ⌝ }
-    {
-        Row::single(Row::DELAY, x)
     }
 
     // 1 ≤ 0.
