@@ -9,46 +9,46 @@ use lib.ListN.{length}
 use lib.IntN.{ℤ, pos, negsuc, neg_ℤ, nat_abs, ◌+ℤ◌, ◌*ℤ◌}
 use lib.Signed.{le_z, lt_z}
 use Rattle.integers.specs.Gcd.{gcd}
-use Rattle.integers.specs.Limits.{entry-limit}
+use Rattle.integers.specs.Limits.{entry_limit}
 use Rattle.integers.specs.Lists.{every}
-use Rattle.integers.proofs.Euclid.{gcd-le}
+use Rattle.integers.proofs.Euclid.{gcd_le}
 use Rattle.integers.proofs.Loops.{front, front-all}
-use Rattle.integers.proofs.Tests.{and_left, and_right, and-all, not-or, le_z_not_lt_z}
+use Rattle.integers.proofs.Tests.{and_left, and_right, and_all, not_or, le_z_not_lt_z}
 use Rattle.integers.proofs.Whole.{zed, of-pos}
-use Rattle.entries.specs.Entries.{at, Within, Small, gcd-from, or-one, divisor, all_small, plus, times}
+use Rattle.entries.specs.Entries.{at, Within, Small, gcd_from, or_one, divisor, all_small, plus, times}
 use Rattle.entries.proofs.Common.{divisor-pos}
 use Rattle.entries.proofs.Sums.{at-plus, at-times, length-plus, length-times}
 
 -- ---- the divisor
-gcd-from-le : (B : ℕ) (l : List ℤ) (g : ℕ) → g ≤ B → Within B l → gcd-from g l ≤ B
-gcd-from-le B [] g h w = h
-gcd-from-le B (z ∷ l) g h w = gcd-from-le B l (gcd g (nat_abs z)) (gcd-le B g (nat_abs z) h (w 0)) (λ i. w (suc i))
+gcd_from_le : (B : ℕ) (l : List ℤ) (g : ℕ) → g ≤ B → Within B l → gcd_from g l ≤ B
+gcd_from_le B [] g h w = h
+gcd_from_le B (z ∷ l) g h w = gcd_from_le B l (gcd g (nat_abs z)) (gcd_le B g (nat_abs z) h (w 0)) (λ i. w (suc i))
 
-or-one-le : (B g : ℕ) → 1 ≤ B → g ≤ B → or-one g ≤ B
-or-one-le B zero h k = h
-or-one-le B (suc n) h k = k
+or_one_le : (B g : ℕ) → 1 ≤ B → g ≤ B → or_one g ≤ B
+or_one_le B zero h k = h
+or_one_le B (suc n) h k = k
 
 pub divisor-above : (l : List ℤ) → 0 < divisor l
 divisor-above l = omega (zed, of-pos (divisor-pos l))
 
-pub divisor-le : (B : ℕ) (l : List ℤ) → 1 ≤ B → Within B l → divisor l ≤ B
+pub divisor_le : (B : ℕ) (l : List ℤ) → 1 ≤ B → Within B l → divisor l ≤ B
 unfolding divisor
-divisor-le B l h w = or-one-le B (gcd-from 0 l) h (gcd-from-le B l 0 zero-le w)
+divisor_le B l h w = or_one_le B (gcd_from 0 l) h (gcd_from_le B l 0 zero-le w)
 
 -- ---- the test of all entries
 pub small_of : (l : List ℤ) → all_small l ≡ true → Small l
 unfolding all_small every
 small_of [] e i = zero-le
-small_of (z ∷ l) e zero = leb-true _ _ (and_left (leb (nat_abs z) entry-limit) (every (λ z. leb (nat_abs z) entry-limit) l) e)
-small_of (z ∷ l) e (suc i) = small_of l (and_right (leb (nat_abs z) entry-limit) (every (λ z. leb (nat_abs z) entry-limit) l) e) i
+small_of (z ∷ l) e zero = leb-true _ _ (and_left (leb (nat_abs z) entry_limit) (every (λ z. leb (nat_abs z) entry_limit) l) e)
+small_of (z ∷ l) e (suc i) = small_of l (and_right (leb (nat_abs z) entry_limit) (every (λ z. leb (nat_abs z) entry_limit) l) e) i
 
 -- the limit above and below, apart
-between : (z : ℤ) → leb (nat_abs z) entry-limit ≡ (le_z z (pos entry-limit) && le_z (neg_ℤ (pos entry-limit)) z)
-between (pos n) = and-all (leb n entry-limit) true refl
+between : (z : ℤ) → leb (nat_abs z) entry_limit ≡ (le_z z (pos entry_limit) && le_z (neg_ℤ (pos entry_limit)) z)
+between (pos n) = and_all (leb n entry_limit) true refl
 between (negsuc n) = leb-suc-suc n 999999999
 
-pub one-small : (z : ℤ) → leb (nat_abs z) entry-limit ≡ not (lt_z (pos entry-limit) z || lt_z z (neg_ℤ (pos entry-limit)))
-one-small z = between z ∙ ap₂ {C = Bool} (λ a b. a && b) (le_z_not_lt_z (pos entry-limit) z) (le_z_not_lt_z z (neg_ℤ (pos entry-limit))) ∙ sym (not-or (lt_z (pos entry-limit) z) (lt_z z (neg_ℤ (pos entry-limit))))
+pub one-small : (z : ℤ) → leb (nat_abs z) entry_limit ≡ not (lt_z (pos entry_limit) z || lt_z z (neg_ℤ (pos entry_limit)))
+one-small z = between z ∙ ap₂ {C = Bool} (λ a b. a && b) (le_z_not_lt_z (pos entry_limit) z) (le_z_not_lt_z z (neg_ℤ (pos entry_limit))) ∙ sym (not_or (lt_z (pos entry_limit) z) (lt_z z (neg_ℤ (pos entry_limit))))
 
 -- ---- a pair, as a loop makes it entry by entry
 module _ (x y : List ℤ) (a b : ℤ) where
@@ -62,11 +62,11 @@ pub front-added : (x y o : List ℤ) → length o ≡ length x → length x ≡ 
 front-added x y o h e = front-all (pos 0) _ (length x) o (plus x y) h (length-plus x y e) (λ i k. sym (at-plus x y i))
 
 -- ---- the divisor as the code has it: the greatest common divisor, or 1
-pub divisor-one : (l : List ℤ) (g : ℕ) → g ≡ gcd-from 0 l → g ≡ 0 → 1 ≡ divisor l
+pub divisor-one : (l : List ℤ) (g : ℕ) → g ≡ gcd_from 0 l → g ≡ 0 → 1 ≡ divisor l
 unfolding divisor
 divisor-one l g e h = rw (← e, h)
 
-pub divisor-same : (l : List ℤ) (g : ℕ) → g ≡ gcd-from 0 l → (g ≡ 0 → ⊥) → g ≡ divisor l
+pub divisor-same : (l : List ℤ) (g : ℕ) → g ≡ gcd_from 0 l → (g ≡ 0 → ⊥) → g ≡ divisor l
 unfolding divisor
 divisor-same l zero e f = absurd (f refl)
 divisor-same l (suc g) e f = rw (← e)

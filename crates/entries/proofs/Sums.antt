@@ -7,7 +7,7 @@ use native.Mathlib.Nat.{suc_inj, suc-ne-zero, le_of_suc-le-suc, not-suc-le-zero}
 use native.Mathlib.Omega.{arith}
 use lib.ListN.{length, set, length-map, length-set, get_or-map}
 use lib.IntN.{ℤ, pos, ◌+ℤ◌, ◌*ℤ◌, +ℤ_idl, +ℤ_idr, *ℤ-zero}
-use Rattle.entries.specs.Entries.{at, plus, times, with-entry}
+use Rattle.entries.specs.Entries.{at, plus, times, with_entry}
 
 pub at-plus : (l m : List ℤ) (v : ℕ) → at (plus l m) v ≡ at l v +ℤ at m v
 unfolding plus
@@ -34,29 +34,29 @@ length-plus (a ∷ l) [] e = refl
 length-plus (a ∷ l) (b ∷ m) e = ap suc (length-plus l m (suc_inj e))
 
 -- ---- one entry changed
-pub at_with : (v : ℕ) (z : ℤ) (l : List ℤ) → at (with-entry v z l) v ≡ z
-unfolding with-entry
+pub at_with : (v : ℕ) (z : ℤ) (l : List ℤ) → at (with_entry v z l) v ≡ z
+unfolding with_entry
 at_with zero z [] = refl
 at_with zero z (a ∷ l) = refl
 at_with (suc v) z [] = at_with v z []
 at_with (suc v) z (a ∷ l) = at_with v z l
 
-pub at-with-other : (v i : ℕ) (z : ℤ) (l : List ℤ) → i ≢ v → at (with-entry v z l) i ≡ at l i
-unfolding with-entry
-at-with-other zero zero z l f = absurd (f refl)
-at-with-other zero (suc i) z [] f = refl
-at-with-other zero (suc i) z (a ∷ l) f = refl
-at-with-other (suc v) zero z [] f = refl
-at-with-other (suc v) zero z (a ∷ l) f = refl
-at-with-other (suc v) (suc i) z [] f = at-with-other v i z [] (λ e. f (ap suc e))
-at-with-other (suc v) (suc i) z (a ∷ l) f = at-with-other v i z l (λ e. f (ap suc e))
+pub at-with_other : (v i : ℕ) (z : ℤ) (l : List ℤ) → i ≢ v → at (with_entry v z l) i ≡ at l i
+unfolding with_entry
+at-with_other zero zero z l f = absurd (f refl)
+at-with_other zero (suc i) z [] f = refl
+at-with_other zero (suc i) z (a ∷ l) f = refl
+at-with_other (suc v) zero z [] f = refl
+at-with_other (suc v) zero z (a ∷ l) f = refl
+at-with_other (suc v) (suc i) z [] f = at-with_other v i z [] (λ e. f (ap suc e))
+at-with_other (suc v) (suc i) z (a ∷ l) f = at-with_other v i z l (λ e. f (ap suc e))
 
 -- inside the list it is a store
-pub with-set : (v : ℕ) (z : ℤ) (l : List ℤ) → v < length l → with-entry v z l ≡ set l v z
-unfolding with-entry
+pub with-set : (v : ℕ) (z : ℤ) (l : List ℤ) → v < length l → with_entry v z l ≡ set l v z
+unfolding with_entry
 with-set v z [] h = absurd (not-suc-le-zero h)
 with-set zero z (a ∷ l) h = refl
 with-set (suc v) z (a ∷ l) h = ap {B = List ℤ} (λ k. a ∷ k) (with-set v z l (le_of_suc-le-suc h))
 
-pub length-with : (v : ℕ) (z : ℤ) (l : List ℤ) → v < length l → length (with-entry v z l) ≡ length l
+pub length-with : (v : ℕ) (z : ℤ) (l : List ℤ) → v < length l → length (with_entry v z l) ≡ length l
 length-with v z l h = ap length (with-set v z l h) ∙ length-set l v z

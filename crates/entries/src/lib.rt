@@ -1,9 +1,9 @@
 // The sixteen entries of a row, in 32 or 64 bits, one loop a function. Each is an inner step of the rows above.
 ghost use Rattle.std.specs.Prelude.{◌≡◌, map, ◌≤◌, ◌<◌, ◌^◌, drop, pos, nat_abs};
 ghost use Rattle.std.specs.Int.Signed.{quot_z};
-ghost use Rattle.integers.specs.Limits.{entry-limit};
+ghost use Rattle.integers.specs.Limits.{entry_limit};
 ghost use Rattle.integers.specs.Signs.{sign};
-ghost use Rattle.entries.specs.Entries.{Within, Small, gcd-from, divisor, all_small, all-zero, plus, times, has, has-unit, is-level, first-nonzero};
+ghost use Rattle.entries.specs.Entries.{Within, Small, gcd_from, divisor, all_small, all_zero, plus, times, has, has_unit, is_level, first_nonzero};
 
 pub const COUNT: usize = 16;
 
@@ -32,7 +32,7 @@ pub fn narrowed(l: [i64; 16]) -> [i32; 16]
 }
 
 fn gcd_of_all(l: [i64; 16]) -> u64
-    ensures { result ≡ gcd-from 0 l }
+    ensures { result ≡ gcd_from 0 l }
 {
     let mut g: u64 = 0;
     for i in 0..16 {
@@ -73,7 +73,7 @@ pub fn all_small(l: [i64; 16]) -> bool
 
 // Whether entries 1 to 15 are 0.
 pub fn no_variables(l: [i64; 16]) -> bool
-    ensures { result ≡ all-zero (drop 1 l) }
+    ensures { result ≡ all_zero (drop 1 l) }
 {
     for i in 1..16 {
         if l[i] != 0 {
@@ -85,7 +85,7 @@ pub fn no_variables(l: [i64; 16]) -> bool
 
 // Inner step: b·x + a·y, which 64 bits hold for entries and multipliers within the limit.
 pub fn combined(x: [i64; 16], y: [i64; 16], a: i64, b: i64) -> [i64; 16]
-    requires { Small x × Small y × (nat_abs a ≤ entry-limit) × (nat_abs b ≤ entry-limit) }
+    requires { Small x × Small y × (nat_abs a ≤ entry_limit) × (nat_abs b ≤ entry_limit) }
     ensures { result ≡ plus (times b x) (times a y) }
 {
     let mut to = [0i64; 16];
@@ -120,7 +120,7 @@ fn has(l: [i32; 16], x: i32) -> bool
 
 // Whether an entry is 1 or -1.
 pub fn has_unit(l: [i32; 16]) -> bool
-    ensures { result ≡ has-unit l }
+    ensures { result ≡ has_unit l }
 {
     has(l, 1) | has(l, -1)
 }
@@ -140,7 +140,7 @@ pub fn within_limit(l: [i32; 16]) -> bool
 // Inner step: whether every entry is 0, x or -x.
 pub fn is_level(l: [i32; 16], x: i32) -> bool
     requires { nat_abs x < 2 ^ 31 }
-    ensures { result ≡ is-level x l }
+    ensures { result ≡ is_level x l }
 {
     let y = -x;
     let mut other = false;
@@ -164,7 +164,7 @@ pub fn signs(l: [i32; 16]) -> [i32; 16]
 
 // The first entry of a variable that is not 0; 0 where there is none.
 pub fn first_variable(l: [i32; 16]) -> i32
-    ensures { result ≡ first-nonzero (drop 1 l) }
+    ensures { result ≡ first_nonzero (drop 1 l) }
 {
     for i in 1..16 {
         if l[i] != 0 {

@@ -15,11 +15,11 @@ use mir.Val.{of_z, hbits}
 use Rattle.integers.specs.Lists.{every, from}
 use Rattle.integers.specs.Signs.{is_zero}
 use Rattle.integers.proofs.Bounds.{bits-zero, zero_bits}
-use Rattle.integers.proofs.Loops.{every-stops, every-turn, every-done}
+use Rattle.integers.proofs.Loops.{every_stops, every_turn, every-done}
 use Rattle.integers.proofs.Tests.{and_left, and_right}
-use Rattle.rows.specs.Rows.{with-entry}
+use Rattle.rows.specs.Rows.{with_entry}
 use Rattle.models.proofs.Setting.{length_from, from_at}
-use Rattle.frames.specs.Reading.{term-entry, term-coefficient, entries-of}
+use Rattle.frames.specs.Reading.{term_entry, term_coefficient, entries_of}
 
 module _ (f : ℕ → Bool) (n i : ℕ) where
   here : i < n → f (get_or (from 0 n) i 0) ≡ f i
@@ -28,11 +28,11 @@ module _ (f : ℕ → Bool) (n i : ℕ) where
       zero-plus : (i : ℕ) → 0 + i ≡ i
       zero-plus i = omega arith
 
-  pub count-stops : i < n → f i ≡ false → false ≡ every f (drop i (from 0 n))
-  count-stops h e = every-stops f (from 0 n) i 0 (omega (arith, length_from 0 n)) (here h ∙ e)
+  pub count_stops : i < n → f i ≡ false → false ≡ every f (drop i (from 0 n))
+  count_stops h e = every_stops f (from 0 n) i 0 (omega (arith, length_from 0 n)) (here h ∙ e)
 
   pub count_turn : i < n → f i ≡ true → every f (drop (i + 1) (from 0 n)) ≡ every f (drop i (from 0 n))
-  count_turn h e = every-turn f (from 0 n) i 0 (omega (arith, length_from 0 n)) (here h ∙ e)
+  count_turn h e = every_turn f (from 0 n) i 0 (omega (arith, length_from 0 n)) (here h ∙ e)
 
   pub count-done : n ≤ i → true ≡ every f (drop i (from 0 n))
   count-done h = every-done f (from 0 n) i 0 (omega (arith, length_from 0 n))
@@ -45,9 +45,9 @@ zero-read w z h = go (eqb (of_z w z) 0) refl
     go false e = sym (zero_bits w z (eqb-false (of_z w z) 0 e))
 
 -- ---- terms put into the entries from the last to the first
-pub term-more : (b : List ℕ) (n i : ℕ) → i < n → entries-of b (from i (n - i)) ≡ with-entry (term-entry b i) (term-coefficient b i) (entries-of b (from (i + 1) (n - (i + 1))))
-unfolding entries-of
-term-more b n i h = let e : n - i ≡ suc (n - (i + 1)) = omega arith in rw (e, add-one)
+pub term_more : (b : List ℕ) (n i : ℕ) → i < n → entries_of b (from i (n - i)) ≡ with_entry (term_entry b i) (term_coefficient b i) (entries_of b (from (i + 1) (n - (i + 1))))
+unfolding entries_of
+term_more b n i h = let e : n - i ≡ suc (n - (i + 1)) = omega arith in rw (e, add-one)
 
 -- ---- a test of the numbers from a on tells of each
 counted-from : (f : ℕ → Bool) (a n : ℕ) → every f (from a n) ≡ true → (i : ℕ) → i < n → f (a + i) ≡ true

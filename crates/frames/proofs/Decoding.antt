@@ -10,12 +10,12 @@ use lib.Dec.{eqb, ltb}
 use lib.ListN.{length, get_or, take, drop, set, length-append}
 use lib.Seq.{take_all, take-suc-set, take-append-le}
 use Rattle.integers.proofs.Tests.{false_of}
-use Rattle.integers.proofs.Loops.{drop-turn}
+use Rattle.integers.proofs.Loops.{drop_turn}
 use Rattle.sets.specs.declared.Refusal.TheVariants.{NoFrame}
 use Rattle.sets.specs.Outcomes.{Result, found, refused, and_then}
 use Rattle.sets.proofs.Results.{refused-not}
-use Rattle.frames.specs.Hex.{digit, pair, first-bytes}
-use Rattle.frames.specs.Steps.{frame-limit, Decoded}
+use Rattle.frames.specs.Hex.{digit, pair, first_bytes}
+use Rattle.frames.specs.Steps.{frame_limit, Decoded}
 use Rattle.frames.specs.declared.Line.{Line}
 use Rattle.frames.proofs.Pairs.{set_past}
 
@@ -28,28 +28,28 @@ no_end c d b e = false_of (eqb c 10) (λ h. clash (eqb-true c 10 h))
     clash h = refused-not (rw h at e)
 
 module _ (c d : ℕ) (cs : List ℕ) where
-  pub pair-first : (b : ℕ) → pair c d ≡ found b → first-bytes (c ∷ d ∷ cs) ≡ and_then (first-bytes cs) (λ bs. found (b ∷ bs))
-  unfolding first-bytes and_then
+  pub pair-first : (b : ℕ) → pair c d ≡ found b → first_bytes (c ∷ d ∷ cs) ≡ and_then (first_bytes cs) (λ bs. found (b ∷ bs))
+  unfolding first_bytes and_then
   pair-first b e = rw (no_end c d b e, e)
 
-  pub pair-stops : pair c d ≡ refused NoFrame → first-bytes (c ∷ d ∷ cs) ≡ cond (eqb c 10) (found []) (refused NoFrame)
-  unfolding first-bytes and_then
-  pair-stops e = rw e
+  pub pair_stops : pair c d ≡ refused NoFrame → first_bytes (c ∷ d ∷ cs) ≡ cond (eqb c 10) (found []) (refused NoFrame)
+  unfolding first_bytes and_then
+  pair_stops e = rw e
 
 -- ---- the bytes of the line so far, of which the first 1,280 stand in the buffer
 pub record Going (all left to : List ℕ) (n : ℕ) : Type 0 where
   pub bytes : List ℕ
   pub count : length bytes ≡ n
-  pub kept : take n to ≡ take frame-limit bytes
-  pub same : first-bytes all ≡ and_then (first-bytes left) (λ cs. found (bytes ++ cs))
+  pub kept : take n to ≡ take frame_limit bytes
+  pub same : first_bytes all ≡ and_then (first_bytes left) (λ cs. found (bytes ++ cs))
 
 then_found : (o : Result (List ℕ)) → o ≡ and_then o (λ cs. found cs)
 unfolding and_then
 then_found (found cs) = refl
 then_found (refused q) = refl
 
-pub going-none : (l to : List ℕ) → Going l l to 0
-going-none l to = record { bytes = []; count = refl; kept = refl; same = then_found (first-bytes l) }
+pub going_none : (l to : List ℕ) → Going l l to 0
+going_none l to = record { bytes = []; count = refl; kept = refl; same = then_found (first_bytes l) }
 
 then-more : (o : Result (List ℕ)) (bytes : List ℕ) (b : ℕ) →
     and_then (and_then o (λ bs. found (b ∷ bs))) (λ cs. found (bytes ++ cs)) ≡ and_then o (λ cs. found ((bytes ++ (b ∷ [])) ++ cs))
@@ -57,47 +57,47 @@ unfolding and_then
 then-more (found cs) bytes b = ap found (sym (append_assoc bytes (b ∷ []) cs))
 then-more (refused q) bytes b = refl
 
-kept_more : (to bytes : List ℕ) (n b : ℕ) → length to ≡ frame-limit → length bytes ≡ n → take n to ≡ take frame-limit bytes → take (n + 1) (set to n b) ≡ take frame-limit (bytes ++ (b ∷ []))
-kept_more to bytes n b long count kept = go (ltb n frame-limit) refl
+kept_more : (to bytes : List ℕ) (n b : ℕ) → length to ≡ frame_limit → length bytes ≡ n → take n to ≡ take frame_limit bytes → take (n + 1) (set to n b) ≡ take frame_limit (bytes ++ (b ∷ []))
+kept_more to bytes n b long count kept = go (ltb n frame_limit) refl
   where
-    room : n < frame-limit → take (n + 1) (set to n b) ≡ take frame-limit (bytes ++ (b ∷ []))
+    room : n < frame_limit → take (n + 1) (set to n b) ≡ take frame_limit (bytes ++ (b ∷ []))
     room h =
-        rw (add-one, take-suc-set to n b (omega arith), kept, take_all frame-limit bytes (omega arith))
-        (sym (take_all frame-limit (bytes ++ (b ∷ [])) (omega (arith, length-append bytes (b ∷ [])))))
+        rw (add-one, take-suc-set to n b (omega arith), kept, take_all frame_limit bytes (omega arith))
+        (sym (take_all frame_limit (bytes ++ (b ∷ [])) (omega (arith, length-append bytes (b ∷ [])))))
 
-    full : frame-limit ≤ n → take (n + 1) (set to n b) ≡ take frame-limit (bytes ++ (b ∷ []))
+    full : frame_limit ≤ n → take (n + 1) (set to n b) ≡ take frame_limit (bytes ++ (b ∷ []))
     full h =
-        rw (set_past to n b (omega arith), take_all (n + 1) to (omega arith), take-append-le frame-limit bytes (b ∷ []) (omega arith))
+        rw (set_past to n b (omega arith), take_all (n + 1) to (omega arith), take-append-le frame_limit bytes (b ∷ []) (omega arith))
         (sym (take_all n to (omega arith)) ∙ kept)
 
-    go : (t : Bool) → ltb n frame-limit ≡ t → take (n + 1) (set to n b) ≡ take frame-limit (bytes ++ (b ∷ []))
-    go true e = room (ltb-true n frame-limit e)
-    go false e = full (ltb-false n frame-limit e)
+    go : (t : Bool) → ltb n frame_limit ≡ t → take (n + 1) (set to n b) ≡ take frame_limit (bytes ++ (b ∷ []))
+    go true e = room (ltb-true n frame_limit e)
+    go false e = full (ltb-false n frame_limit e)
 
 module _ (all to : List ℕ) (n : ℕ) where
-  pub going_more : (c d b : ℕ) (cs : List ℕ) → length to ≡ frame-limit → pair c d ≡ found b → Going all (c ∷ d ∷ cs) to n → Going all cs (set to n b) (n + 1)
+  pub going_more : (c d b : ℕ) (cs : List ℕ) → length to ≡ frame_limit → pair c d ≡ found b → Going all (c ∷ d ∷ cs) to n → Going all cs (set to n b) (n + 1)
   going_more c d b cs long e g = record {
     bytes = g.bytes ++ (b ∷ []);
     count = rw (length-append, g.count);
     kept = kept_more to g.bytes n b long g.count g.kept;
-    same = g.same ∙ (rw (pair-first c d cs b e) (then-more (first-bytes cs) g.bytes b));
+    same = g.same ∙ (rw (pair-first c d cs b e) (then-more (first_bytes cs) g.bytes b));
   }
 
-  pub going-ends : (left : List ℕ) (r : Line) (good : Bool) → Going all left to n → first-bytes left ≡ cond good (found []) (refused NoFrame) → r.good ≡ good → r.count ≡ n →
-      Decoded (first-bytes all) to r
+  pub going_ends : (left : List ℕ) (r : Line) (good : Bool) → Going all left to n → first_bytes left ≡ cond good (found []) (refused NoFrame) → r.good ≡ good → r.count ≡ n →
+      Decoded (first_bytes all) to r
   unfolding and_then
-  going-ends left r true g e a b =
-      let f : first-bytes all ≡ found (g.bytes ++ []) = rw e at g.same in
+  going_ends left r true g e a b =
+      let f : first_bytes all ≡ found (g.bytes ++ []) = rw e at g.same in
       let k : length (g.bytes ++ []) ≡ n = rw append-nil g.count in
       rw f (a, b ∙ sym k, rw (k, append-nil g.bytes) g.kept)
-  going-ends left r false g e a b = let f : first-bytes all ≡ refused NoFrame = rw e at g.same in rw f a
+  going_ends left r false g e a b = let f : first_bytes all ≡ refused NoFrame = rw e at g.same in rw f a
 
 -- ---- where the decoder stops
-pub ends-short : (l : List ℕ) → length l ≤ 1 → first-bytes l ≡ cond (eqb (get_or l 0 0) 10) (found []) (refused NoFrame)
-unfolding first-bytes
+pub ends-short : (l : List ℕ) → length l ≤ 1 → first_bytes l ≡ cond (eqb (get_or l 0 0) 10) (found []) (refused NoFrame)
+unfolding first_bytes
 ends-short [] h = refl
 ends-short (c ∷ []) h = refl
 ends-short (c ∷ d ∷ cs) h = absurd (omega arith)
 
-pub two-left : (l : List ℕ) (at : ℕ) → at + 1 < length l → drop at l ≡ get_or l at 0 ∷ get_or l (at + 1) 0 ∷ drop (at + 2) l
-two-left l at h = let e : at + 1 + 1 ≡ at + 2 = omega arith in rw (drop-turn l at 0 (omega arith), drop-turn l (at + 1) 0 h, e)
+pub two_left : (l : List ℕ) (at : ℕ) → at + 1 < length l → drop at l ≡ get_or l at 0 ∷ get_or l (at + 1) 0 ∷ drop (at + 2) l
+two_left l at h = let e : at + 1 + 1 ≡ at + 2 = omega arith in rw (drop_turn l at 0 (omega arith), drop_turn l (at + 1) 0 h, e)

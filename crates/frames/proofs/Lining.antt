@@ -8,68 +8,68 @@ use borrow.Author.Tests.{le-leb, lt-leb}
 use lib.ListN.{length, length-append}
 use lib.IntN.{ℤ}
 use Rattle.rows.specs.declared.Row.{Row}
-use Rattle.rows.specs.Rows.{row-numbers, row_at}
+use Rattle.rows.specs.Rows.{row_numbers, row_at}
 use Rattle.sets.specs.Stores.{rows_at}
 use Rattle.sets.specs.declared.Outcome.{Outcome}
-use Rattle.sets.specs.Outcomes.{outcome-number}
+use Rattle.sets.specs.Outcomes.{outcome_number}
 use Rattle.frames.specs.Hex.{digits_of, line_of, big_endian}
-use Rattle.frames.specs.Writing.{Wrote, row-bytes, row-lines, count-bytes, answer-bytes, answer-lines, Written-is}
-use Rattle.frames.proofs.Overwriting.{digits-then}
+use Rattle.frames.specs.Writing.{Wrote, row_bytes, row_lines, count_bytes, answer_bytes, answer_lines, WrittenIs}
+use Rattle.frames.proofs.Overwriting.{digits_then}
 
 module _ (s : List ℤ) (n i : ℕ) where
   -- the rows from number i on
   abbrev pub from_row : List Row
-  from_row = rows_at s (i * row-numbers) (n - i)
+  from_row = rows_at s (i * row_numbers) (n - i)
 
-  pub lines-turn : i < n → row-lines from_row ≡ line_of (row-bytes (row_at s (i * row-numbers))) ++ row-lines (rows_at s ((i + 1) * row-numbers) (n - (i + 1)))
-  unfolding rows_at row-lines
-  lines-turn h =
+  pub lines_turn : i < n → row_lines from_row ≡ line_of (row_bytes (row_at s (i * row_numbers))) ++ row_lines (rows_at s ((i + 1) * row_numbers) (n - (i + 1)))
+  unfolding rows_at row_lines
+  lines_turn h =
       let a : n - i ≡ suc (n - (i + 1)) = omega arith in
-      let b : i * row-numbers + row-numbers ≡ (i + 1) * row-numbers = omega arith in
+      let b : i * row_numbers + row_numbers ≡ (i + 1) * row_numbers = omega arith in
       rw (a, b)
 
-  pub lines-done : n ≤ i → row-lines from_row ≡ []
-  unfolding rows_at row-lines
+  pub lines-done : n ≤ i → row_lines from_row ≡ []
+  unfolding rows_at row_lines
   lines-done h = let a : n - i ≡ 0 = omega arith in rw a
 
-pub lines-all : (s : List ℤ) (n : ℕ) → row-lines (from_row s n 0) ≡ row-lines (rows_at s 0 n)
+pub lines-all : (s : List ℤ) (n : ℕ) → row_lines (from_row s n 0) ≡ row_lines (rows_at s 0 n)
 lines-all s n = let a : n - 0 ≡ n = omega arith in rw a
 
 -- ---- the frame 05
-pub count-digits : (a b c : ℕ) → digits_of (count-bytes a b c) ≡ (digits_of (big_endian 2 a) ++ digits_of (big_endian 2 b)) ++ digits_of (big_endian 4 c)
-count-digits a b c = digits-then (big_endian 2 a ++ big_endian 2 b) (big_endian 4 c) ∙ ap (λ (t : List ℕ). t ++ digits_of (big_endian 4 c)) (digits-then (big_endian 2 a) (big_endian 2 b))
+pub count_digits : (a b c : ℕ) → digits_of (count_bytes a b c) ≡ (digits_of (big_endian 2 a) ++ digits_of (big_endian 2 b)) ++ digits_of (big_endian 4 c)
+count_digits a b c = digits_then (big_endian 2 a ++ big_endian 2 b) (big_endian 4 c) ∙ ap (λ (t : List ℕ). t ++ digits_of (big_endian 4 c)) (digits_then (big_endian 2 a) (big_endian 2 b))
 
-pub counts-length : (a b c : ℕ) → length (digits_of (count-bytes a b c)) ≡ 16
+pub counts-length : (a b c : ℕ) → length (digits_of (count_bytes a b c)) ≡ 16
 unfolding digits_of big_endian
 counts-length a b c = refl
 
-pub answer-digits : (o : Outcome) (a b c n : ℕ) → line_of (answer-bytes o a b c n) ≡
-    (((digits_of (5 ∷ []) ++ digits_of (outcome-number o ∷ [])) ++ digits_of (count-bytes a b c)) ++ digits_of (n ∷ [])) ++ (10 ∷ [])
-unfolding line_of answer-bytes digits_of big_endian
-answer-digits o a b c n = refl
+pub answer_digits : (o : Outcome) (a b c n : ℕ) → line_of (answer_bytes o a b c n) ≡
+    (((digits_of (5 ∷ []) ++ digits_of (outcome_number o ∷ [])) ++ digits_of (count_bytes a b c)) ++ digits_of (n ∷ [])) ++ (10 ∷ [])
+unfolding line_of answer_bytes digits_of big_endian
+answer_digits o a b c n = refl
 
-pub answer-length : (o : Outcome) (a b c n : ℕ) → length (line_of (answer-bytes o a b c n)) ≡ 23
-unfolding line_of answer-bytes digits_of big_endian
+pub answer-length : (o : Outcome) (a b c n : ℕ) → length (line_of (answer_bytes o a b c n)) ≡ 23
+unfolding line_of answer_bytes digits_of big_endian
 answer-length o a b c n = refl
 
 pub rows-count : (s : List ℤ) (at n : ℕ) → length (rows_at s at n) ≡ n
 unfolding rows_at
 rows-count s at zero = refl
-rows-count s at (suc n) = ap suc (rows-count s (at + row-numbers) n)
+rows-count s at (suc n) = ap suc (rows-count s (at + row_numbers) n)
 
 -- ---- the whole answer
 module _ (o : Outcome) (a b c : ℕ) (s : List ℤ) (n : ℕ) where
-  pub answer-is : answer-lines o a b c (rows_at s 0 n) ≡ line_of (answer-bytes o a b c n) ++ row-lines (rows_at s 0 n)
-  unfolding answer-lines
+  pub answer-is : answer_lines o a b c (rows_at s 0 n) ≡ line_of (answer_bytes o a b c n) ++ row_lines (rows_at s 0 n)
+  unfolding answer_lines
   answer-is = rw (rows-count s 0 n)
 
-  pub answer-long : length (answer-lines o a b c (rows_at s 0 n)) ≡ length (row-lines (rows_at s 0 n)) + 23
+  pub answer-long : length (answer_lines o a b c (rows_at s 0 n)) ≡ length (row_lines (rows_at s 0 n)) + 23
   answer-long = ap length answer-is ∙ (rw (length-append, answer-length o a b c n) (omega arith))
 
-pub no_room : (cs to : List ℕ) → length to < length cs → Written-is cs to to (record { count = 0; fits = false })
+pub no_room : (cs to : List ℕ) → length to < length cs → WrittenIs cs to to (record { count = 0; fits = false })
 no_room cs to h = let e = lt-leb (length cs) (length to) h in record { fits = rw e; count = rw e; store = rw e }
 
-pub all-written : (cs to to' : List ℕ) (n : ℕ) → length cs ≤ length to → Wrote cs 0 to to' n → Written-is cs to to' (record { count = n; fits = true })
+pub all-written : (cs to to' : List ℕ) (n : ℕ) → length cs ≤ length to → Wrote cs 0 to to' n → WrittenIs cs to to' (record { count = n; fits = true })
 all-written cs to to' n h w =
     let e = le-leb (length cs) (length to) h in
     record { fits = rw e; count = rw e (w.place ∙ zero-plus (length cs)); store = rw e w.store }

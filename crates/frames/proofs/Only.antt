@@ -4,9 +4,9 @@ use mathlib.Core.Path.{◌≡◌, sym, ◌∙◌}
 use mathlib.Core.List.{List}
 use Prim.Native.Nat.{ℕ}
 use Rattle.frames.specs.declared.Written.{Written}
-use Rattle.frames.specs.Writing.{Written-is}
+use Rattle.frames.specs.Writing.{WrittenIs}
 
-module _ (cs to to₁ to₂ : List ℕ) (r₁ r₂ : Written) (h : Written-is cs to to₁ r₁) (k : Written-is cs to to₂ r₂) where
+module _ (cs to to₁ to₂ : List ℕ) (r₁ r₂ : Written) (h : WrittenIs cs to to₁ r₁) (k : WrittenIs cs to to₂ r₂) where
   pub only-written : r₁ ≡ r₂
   only-written = same (h.fits ∙ sym k.fits) (h.count ∙ sym k.count)
     where

@@ -10,12 +10,12 @@ use lib.IntN.{ℤ, pos, negsuc, nat_abs, ◌+ℤ◌}
 use lib.Signed.{mag, lt_z}
 use Rattle.integers.specs.Signs.{is_zero}
 use Rattle.integers.proofs.Tests.{not-both}
-use Rattle.integers.proofs.Loops.{drop-turn, drop-done}
+use Rattle.integers.proofs.Loops.{drop_turn, drop-done}
 use lib.ListN.{length, get_or, take, drop, set, length-append, length-drop, length-set, take-append-drop}
 use lib.Seq.{length-take-le, take_at, drop-append-add, drop-drop, set_split, append_snoc}
 use Rattle.rows.specs.declared.Row.{Row}
-use Rattle.frames.specs.Hex.{digit-of, digits_of, line_of, big_endian, pattern}
-use Rattle.frames.specs.Writing.{over, Wrote, term-bytes, terms-of, term-number, row-head, row-bytes}
+use Rattle.frames.specs.Hex.{digit_of, digits_of, line_of, big_endian, pattern}
+use Rattle.frames.specs.Writing.{over, Wrote, term_bytes, terms_of, term_number, row_head, row_bytes}
 
 module _ (cs : List ℕ) (at : ℕ) (to : List ℕ) (room : at + length cs ≤ length to) where
   front_length : length (take at to ++ cs) ≡ at + length cs
@@ -24,8 +24,8 @@ module _ (cs : List ℕ) (at : ℕ) (to : List ℕ) (room : at + length cs ≤ l
   pub over-length : length (over cs at to) ≡ length to
   over-length = rw (length-append (take at to ++ cs), front_length, length-drop) (omega arith)
 
-  pub over-two : (ds : List ℕ) → over ds (at + length cs) (over cs at to) ≡ over (cs ++ ds) at to
-  over-two ds =
+  pub over_two : (ds : List ℕ) → over ds (at + length cs) (over cs at to) ≡ over (cs ++ ds) at to
+  over_two ds =
       let n = at + length cs in
       let a = take at to ++ cs in
       let q = drop n to in
@@ -49,7 +49,7 @@ pub wrote_then : (cs ds : List ℕ) (at n m : ℕ) (to to' to'' : List ℕ) → 
 wrote_then cs ds at n m to to' to'' room a b = record {
   place = b.place ∙ (rw (a.place, length-append cs ds) (plus at (length cs) (length ds)));
   long = b.long ∙ a.long;
-  store = b.store ∙ (rw (a.place, a.store) (over-two cs at to room ds));
+  store = b.store ∙ (rw (a.place, a.store) (over_two cs at to room ds));
 }
   where
     plus : (a b c : ℕ) → a + b + c ≡ a + (b + c)
@@ -59,25 +59,25 @@ wrote_then cs ds at n m to to' to'' room a b = record {
 pub over-one : (at : ℕ) (to : List ℕ) (x : ℕ) → at < length to → set to at x ≡ over (x ∷ []) at to
 over-one at to x h = set_split to at x h ∙ (rw add-one (sym (append_snoc (take at to) x (drop (suc at) to))))
 
-pub two-stores : (at : ℕ) (to : List ℕ) (x y : ℕ) → at + 2 ≤ length to → set (set to at x) (at + 1) y ≡ over (x ∷ y ∷ []) at to
-two-stores at to x y h =
+pub two_stores : (at : ℕ) (to : List ℕ) (x y : ℕ) → at + 2 ≤ length to → set (set to at x) (at + 1) y ≡ over (x ∷ y ∷ []) at to
+two_stores at to x y h =
     over-one (at + 1) (set to at x) y (rw length-set (omega arith)) ∙
-    (rw (over-one at to x (omega arith)) (over-two (x ∷ []) at to (omega arith) (y ∷ [])))
+    (rw (over-one at to x (omega arith)) (over_two (x ∷ []) at to (omega arith) (y ∷ [])))
 
-pub wrote-byte : (at : ℕ) (to : List ℕ) (b x y : ℕ) → at + 2 ≤ length to → x ≡ digit-of (b / 16) → y ≡ digit-of (b % 16) → Wrote (digits_of (b ∷ [])) at to (set (set to at x) (at + 1) y) (at + 2)
+pub wrote_byte : (at : ℕ) (to : List ℕ) (b x y : ℕ) → at + 2 ≤ length to → x ≡ digit_of (b / 16) → y ≡ digit_of (b % 16) → Wrote (digits_of (b ∷ [])) at to (set (set to at x) (at + 1) y) (at + 2)
 unfolding digits_of
-wrote-byte at to b x y h e f = record { place = refl; long = simp length-set; store = rw (← e, ← f) (two-stores at to x y h) }
+wrote_byte at to b x y h e f = record { place = refl; long = simp length-set; store = rw (← e, ← f) (two_stores at to x y h) }
 
 -- ---- bytes one after the other
-pub digits-then : (bs cs : List ℕ) → digits_of (bs ++ cs) ≡ digits_of bs ++ digits_of cs
+pub digits_then : (bs cs : List ℕ) → digits_of (bs ++ cs) ≡ digits_of bs ++ digits_of cs
 unfolding digits_of
-digits-then [] cs = refl
-digits-then (b ∷ bs) cs = ap (λ (t : List ℕ). digit-of (b / 16) ∷ digit-of (b % 16) ∷ t) (digits-then bs cs)
+digits_then [] cs = refl
+digits_then (b ∷ bs) cs = ap (λ (t : List ℕ). digit_of (b / 16) ∷ digit_of (b % 16) ∷ t) (digits_then bs cs)
 
-pub digits-length : (bs : List ℕ) → length (digits_of bs) ≡ length bs * 2
+pub digits_length : (bs : List ℕ) → length (digits_of bs) ≡ length bs * 2
 unfolding digits_of
-digits-length [] = refl
-digits-length (b ∷ bs) = ap (λ (n : ℕ). suc (suc n)) (digits-length bs) ∙ twice (length bs)
+digits_length [] = refl
+digits_length (b ∷ bs) = ap (λ (n : ℕ). suc (suc n)) (digits_length bs) ∙ twice (length bs)
   where
     twice : (n : ℕ) → suc (suc (n * 2)) ≡ suc n * 2
     twice n = omega arith
@@ -110,17 +110,17 @@ same-is (negsuc n) e h = not-both (sym e)
 -- ---- terms one after the other
 module _ (l : List ℤ) (i : ℕ) (h : i < length l) where
   abbrev bytes : List ℕ
-  bytes = term-bytes i (get_or l i (pos 0))
+  bytes = term_bytes i (get_or l i (pos 0))
 
-  terms-turn : terms-of i (drop i l) ≡ bytes ++ terms-of (i + 1) (drop (i + 1) l)
-  unfolding terms-of
-  terms-turn = rw (drop-turn l i (pos 0) h, add-one)
+  terms_turn : terms_of i (drop i l) ≡ bytes ++ terms_of (i + 1) (drop (i + 1) l)
+  unfolding terms_of
+  terms_turn = rw (drop_turn l i (pos 0) h, add-one)
 
-  pub terms-digits : digits_of (terms-of i (drop i l)) ≡ digits_of bytes ++ digits_of (terms-of (i + 1) (drop (i + 1) l))
-  terms-digits = ap digits_of terms-turn ∙ digits-then bytes (terms-of (i + 1) (drop (i + 1) l))
+  pub terms_digits : digits_of (terms_of i (drop i l)) ≡ digits_of bytes ++ digits_of (terms_of (i + 1) (drop (i + 1) l))
+  terms_digits = ap digits_of terms_turn ∙ digits_then bytes (terms_of (i + 1) (drop (i + 1) l))
 
-pub terms-done : (l : List ℤ) (i : ℕ) → length l ≤ i → terms-of i (drop i l) ≡ []
-unfolding terms-of
+pub terms-done : (l : List ℤ) (i : ℕ) → length l ≤ i → terms_of i (drop i l) ≡ []
+unfolding terms_of
 terms-done l i h = rw (drop-done l i h)
 
 -- what is still to be written, over the store as it is, is what all of it is over the first one
@@ -129,8 +129,8 @@ pub record Going (cs : List ℕ) (at : ℕ) (to₀ ds : List ℕ) (next : ℕ) (
   pub place : next + length ds ≡ at + length cs
   pub store : over ds next to ≡ over cs at to₀
 
-pub going-first : (cs : List ℕ) (at : ℕ) (to : List ℕ) → Going cs at to cs at to
-going-first cs at to = record { long = refl; place = refl; store = refl }
+pub going_first : (cs : List ℕ) (at : ℕ) (to : List ℕ) → Going cs at to cs at to
+going_first cs at to = record { long = refl; place = refl; store = refl }
 
 pub going_on : (cs : List ℕ) (at : ℕ) (to₀ xs ds : List ℕ) (next next' : ℕ) (to to' : List ℕ) → at + length cs ≤ length to₀ → Going cs at to₀ (xs ++ ds) next to → Wrote xs next to to' next' → Going cs at to₀ ds next' to'
 going_on cs at to₀ xs ds next next' to to' room g w =
@@ -138,23 +138,23 @@ going_on cs at to₀ xs ds next next' to to' room g w =
     record {
       long = w.long ∙ g.long;
       place = omega (arith, w.place, g.place);
-      store = rw (w.place, w.store) (over-two xs next to (omega (arith, g.place, g.long)) ds) ∙ g.store;
+      store = rw (w.place, w.store) (over_two xs next to (omega (arith, g.place, g.long)) ds) ∙ g.store;
     }
 
 pub going_end : (cs : List ℕ) (at : ℕ) (to₀ : List ℕ) (next : ℕ) (to : List ℕ) → Going cs at to₀ [] next to → Wrote cs at to₀ to next
 going_end cs at to₀ next to g = record { place = omega (arith, g.place); long = g.long; store = sym (over_none next to) ∙ g.store }
 
 -- ---- terms counted
-pub number-turn : (l : List ℤ) (i n : ℕ) → i < length l → n + cond (is_zero (get_or l i (pos 0))) 0 1 + term-number (drop (i + 1) l) ≡ n + term-number (drop i l)
-unfolding term-number
-number-turn l i n h = rw (drop-turn l i (pos 0) h) (go (is_zero (get_or l i (pos 0))))
+pub number_turn : (l : List ℤ) (i n : ℕ) → i < length l → n + cond (is_zero (get_or l i (pos 0))) 0 1 + term_number (drop (i + 1) l) ≡ n + term_number (drop i l)
+unfolding term_number
+number_turn l i n h = rw (drop_turn l i (pos 0) h) (go (is_zero (get_or l i (pos 0))))
   where
-    go : (b : Bool) → n + cond b 0 1 + term-number (drop (i + 1) l) ≡ n + cond b (term-number (drop (i + 1) l)) (suc (term-number (drop (i + 1) l)))
+    go : (b : Bool) → n + cond b 0 1 + term_number (drop (i + 1) l) ≡ n + cond b (term_number (drop (i + 1) l)) (suc (term_number (drop (i + 1) l)))
     go true = omega arith
     go false = omega arith
 
-pub number-done : (l : List ℤ) (i n : ℕ) → length l ≤ i → n ≡ n + term-number (drop i l)
-unfolding term-number
+pub number-done : (l : List ℤ) (i n : ℕ) → length l ≤ i → n ≡ n + term_number (drop i l)
+unfolding term_number
 number-done l i n h = rw (drop-done l i h) (plus_none n)
   where
     plus_none : (a : ℕ) → a ≡ a + 0
@@ -164,30 +164,30 @@ pub wrote_one : (at : ℕ) (to : List ℕ) (x : ℕ) → at + 1 ≤ length to �
 wrote_one at to x h = record { place = refl; long = simp length-set; store = over-one at to x (omega arith) }
 
 -- ---- the line of a row
-pub head-digits : (strict : Bool) (n : ℕ) → digits_of (row-head strict n) ≡ (digits_of (big_endian 2 768) ++ digits_of (big_endian 2 (cond strict 1 0))) ++ digits_of (n ∷ [])
+pub head_digits : (strict : Bool) (n : ℕ) → digits_of (row_head strict n) ≡ (digits_of (big_endian 2 768) ++ digits_of (big_endian 2 (cond strict 1 0))) ++ digits_of (n ∷ [])
 unfolding digits_of big_endian
-head-digits true n = refl
-head-digits false n = refl
+head_digits true n = refl
+head_digits false n = refl
 
-pub row-digits : (r : Row) → line_of (row-bytes r) ≡ (digits_of (row-head r.strict (term-number r.entries)) ++ digits_of (terms-of 0 r.entries)) ++ (10 ∷ [])
-unfolding line_of row-bytes
-row-digits r = ap (λ (t : List ℕ). t ++ (10 ∷ [])) (digits-then (row-head r.strict (term-number r.entries)) (terms-of 0 r.entries))
+pub row_digits : (r : Row) → line_of (row_bytes r) ≡ (digits_of (row_head r.strict (term_number r.entries)) ++ digits_of (terms_of 0 r.entries)) ++ (10 ∷ [])
+unfolding line_of row_bytes
+row_digits r = ap (λ (t : List ℕ). t ++ (10 ∷ [])) (digits_then (row_head r.strict (term_number r.entries)) (terms_of 0 r.entries))
 
-pub big-four : (n : ℕ) → length (big_endian 4 n) ≡ 4
+pub big_four : (n : ℕ) → length (big_endian 4 n) ≡ 4
 unfolding big_endian
-big-four n = refl
+big_four n = refl
 
-terms-length : (l : List ℤ) (i : ℕ) → length (terms-of i l) ≡ term-number l * 5
-unfolding terms-of term-number
+terms-length : (l : List ℤ) (i : ℕ) → length (terms_of i l) ≡ term_number l * 5
+unfolding terms_of term_number
 terms-length [] i = refl
 terms-length (z ∷ l) i = rw length-append (go (is_zero z) (terms-length l (suc i)))
   where
-    go : (b : Bool) → length (terms-of (suc i) l) ≡ term-number l * 5 → length (cond b [] (i ∷ big_endian 4 (pattern z))) + length (terms-of (suc i) l) ≡ cond b (term-number l) (suc (term-number l)) * 5
+    go : (b : Bool) → length (terms_of (suc i) l) ≡ term_number l * 5 → length (cond b [] (i ∷ big_endian 4 (pattern z))) + length (terms_of (suc i) l) ≡ cond b (term_number l) (suc (term_number l)) * 5
     go true e = omega arith
-    go false e = omega (arith, big-four (pattern z))
+    go false e = omega (arith, big_four (pattern z))
 
-pub line-length : (r : Row) → length (line_of (row-bytes r)) ≡ term-number r.entries * 10 + 11
+pub line-length : (r : Row) → length (line_of (row_bytes r)) ≡ term_number r.entries * 10 + 11
 line-length r =
-    let t = terms-of 0 r.entries in
-    let h = row-head r.strict (term-number r.entries) in
-    ap length (row-digits r) ∙ (rw (length-append (digits_of h ++ digits_of t), length-append (digits_of h), digits-length h, digits-length t, terms-length r.entries 0) (omega arith))
+    let t = terms_of 0 r.entries in
+    let h = row_head r.strict (term_number r.entries) in
+    ap length (row_digits r) ∙ (rw (length-append (digits_of h ++ digits_of t), length-append (digits_of h), digits_length h, digits_length t, terms-length r.entries 0) (omega arith))

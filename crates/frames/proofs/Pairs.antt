@@ -11,7 +11,7 @@ use lib.Dec.{leb}
 use Rattle.integers.proofs.Tests.{and_right}
 use Rattle.sets.specs.declared.Refusal.TheVariants.{NoFrame}
 use Rattle.sets.specs.Outcomes.{Result, found, refused, and_then}
-use Rattle.frames.specs.Hex.{digit, pair, number-or, signed}
+use Rattle.frames.specs.Hex.{digit, pair, number_or, signed}
 
 -- what a digit can be: foreign, or a value below 16
 pub data Below (n : ℕ) : Result ℕ → Type 0 where
@@ -40,11 +40,11 @@ unfolding pair
 pair-below c d = joined (digit-below c) (digit-below d)
 
 -- what the code's number tells
-pub is-foreign : (n : ℕ) {o : Result ℕ} → Below n o → n ≤ number-or n o → o ≡ refused NoFrame
+pub is-foreign : (n : ℕ) {o : Result ℕ} → Below n o → n ≤ number_or n o → o ≡ refused NoFrame
 is-foreign n foreign h = refl
 is-foreign n (value k) h = absurd (omega arith)
 
-pub is-value : (n : ℕ) {o : Result ℕ} → Below n o → number-or n o < n → o ≡ found (number-or n o)
+pub is-value : (n : ℕ) {o : Result ℕ} → Below n o → number_or n o < n → o ≡ found (number_or n o)
 is-value n foreign h = absurd (omega arith)
 is-value n (value k) h = refl
 

@@ -10,7 +10,7 @@ use lib.ListN.{length, drop, set, length-append, length-drop}
 use lib.Seq.{drop-drop}
 use Rattle.integers.proofs.Tests.{and_right}
 use Rattle.integers.proofs.Loops.{drop-done}
-use Rattle.rows.specs.Rows.{set-rows}
+use Rattle.rows.specs.Rows.{set_rows}
 use Rattle.sets.specs.declared.Outcome.TheVariants.{Found, Refused}
 use Rattle.sets.specs.declared.Refusal.{Refusal}
 use Rattle.sets.specs.declared.Refusal.TheVariants.{NoFrame, Misplaced, Undeclared, WrongTerms}
@@ -20,12 +20,12 @@ use Rattle.models.specs.declared.Header.{Header}
 use Rattle.models.specs.declared.ModelRow.{ModelRow}
 use Rattle.models.specs.declared.Transition.{Transition}
 use Rattle.models.specs.Automaton.{padded}
-use Rattle.models.specs.Acceptance.{header-fits, reference-fits, transition-declared}
+use Rattle.models.specs.Acceptance.{header_fits, reference_fits, transition_declared}
 use Rattle.models.proofs.Accepted.{clocks-within, parameters-within, transitions-within}
 use Rattle.frames.specs.declared.Progress.{Progress}
 use Rattle.frames.specs.declared.Frame.{Frame}
-use Rattle.frames.specs.Hex.{lines, first-bytes}
-use Rattle.frames.specs.Reading.{Seen, nothing, progress-of, header_of, reference-of, transition-of, row_of, term-count, is_known, due-length, is-due, placed, passed, row-declared, terms-fit, with-header, with-reference, with-transition, with_row, header-frame, reference-frame, transition-frame, row-frame, content, frame, all_lines, tables, zero-transition, zero_row, input-limit, read}
+use Rattle.frames.specs.Hex.{lines, first_bytes}
+use Rattle.frames.specs.Reading.{Seen, nothing, progress_of, header_of, reference_of, transition_of, row_of, term_count, is_known, due_length, is_due, placed, passed, row_declared, terms_fit, with_header, with_reference, with_transition, with_row, header_frame, reference_frame, transition_frame, row_frame, content, frame, all_lines, tables, zero_transition, zero_row, input_limit, read}
 use Rattle.frames.specs.Steps.{Sound, after, Met}
 use Rattle.frames.proofs.Splitting.{remaining, goes_on, front_length}
 
@@ -33,64 +33,64 @@ use Rattle.frames.proofs.Splitting.{remaining, goes_on, front_length}
 pub record Few (s : Seen) : Type 0 where
   pub sound : Sound s.header
   pub transitions : length s.transitions ≤ 64
-  pub rows : length s.rows ≤ set-rows
+  pub rows : length s.rows ≤ set_rows
 
 pub passed-found : {A : Type 0} (b : Bool) (x t : A) (q : Refusal) → cond b (found x) (refused q) ≡ found t → (b ≡ true) × (x ≡ t)
 passed-found true x t q e = (refl, found-same e)
 passed-found false x t q e = refused-not e
 
-pub sound-header : (h : Header) → header-fits h ≡ true → Sound h
+pub sound-header : (h : Header) → header_fits h ≡ true → Sound h
 sound-header h e = record { clocks = clocks-within h e; parameters = parameters-within h e; transitions = transitions-within h e }
 
 module _ (s : Seen) (f : Few s) (b : List ℕ) (t : Seen) where
-  few-header : header-frame s b ≡ found t → Few t
-  unfolding header-frame
+  few-header : header_frame s b ≡ found t → Few t
+  unfolding header_frame
   few-header e =
-      let p = passed-found (header-fits (header_of b)) (with-header s (header_of b)) t _ e in
+      let p = passed-found (header_fits (header_of b)) (with_header s (header_of b)) t _ e in
       rw (← p.1) (record { sound = sound-header (header_of b) p.0; transitions = f.transitions; rows = f.rows })
 
-  few-reference : reference-frame s b ≡ found t → Few t
-  unfolding reference-frame
+  few-reference : reference_frame s b ≡ found t → Few t
+  unfolding reference_frame
   few-reference e =
-      let p = passed-found (reference-fits (reference-of s.header b)) (with-reference s (reference-of s.header b)) t _ e in
+      let p = passed-found (reference_fits (reference_of s.header b)) (with_reference s (reference_of s.header b)) t _ e in
       rw (← p.1) (record { sound = f.sound; transitions = f.transitions; rows = f.rows })
 
-  few-transition : length s.transitions < s.header.transitions → transition-frame s b ≡ found t → Few t
-  unfolding transition-frame
-  few-transition h e =
-      let p = passed-found (transition-declared s.header (transition-of b)) (with-transition s (transition-of b)) t _ e in
-      rw (← p.1) (record { sound = f.sound; transitions = omega (arith, length-append s.transitions (transition-of b ∷ []), f.sound.transitions); rows = f.rows })
+  few_transition : length s.transitions < s.header.transitions → transition_frame s b ≡ found t → Few t
+  unfolding transition_frame
+  few_transition h e =
+      let p = passed-found (transition_declared s.header (transition_of b)) (with_transition s (transition_of b)) t _ e in
+      rw (← p.1) (record { sound = f.sound; transitions = omega (arith, length-append s.transitions (transition_of b ∷ []), f.sound.transitions); rows = f.rows })
 
-  few-row : length s.rows < set-rows → row-frame s b ≡ found t → Few t
-  unfolding row-frame
-  few-row h e = go (row-declared s.header b) e
+  few-row : length s.rows < set_rows → row_frame s b ≡ found t → Few t
+  unfolding row_frame
+  few-row h e = go (row_declared s.header b) e
     where
-      go : (d : Bool) → cond d (cond (terms-fit b) (found (with_row s (row_of b))) (refused WrongTerms)) (refused Undeclared) ≡ found t → Few t
+      go : (d : Bool) → cond d (cond (terms_fit b) (found (with_row s (row_of b))) (refused WrongTerms)) (refused Undeclared) ≡ found t → Few t
       go true e =
-          let p = passed-found (terms-fit b) (with_row s (row_of b)) t _ e in
+          let p = passed-found (terms_fit b) (with_row s (row_of b)) t _ e in
           rw (← p.1) (record { sound = f.sound; transitions = f.transitions; rows = omega (arith, length-append s.rows (row_of b ∷ [])) })
       go false e = refused-not e
 
-  few-content : (kind : ℕ) → is-due (progress-of s) kind ≡ true → content s kind b ≡ found t → Few t
-  unfolding is-due content
+  few-content : (kind : ℕ) → is_due (progress_of s) kind ≡ true → content s kind b ≡ found t → Few t
+  unfolding is_due content
   few-content kind = go (eqb kind 1) (eqb kind 2) (eqb kind 4)
     where
       go : (x y z : Bool) →
-          cond x (not s.has-header) (cond y (not s.has-reference) (cond z (s.has-reference && ltb (length s.transitions) s.header.transitions)
-          (s.has-reference && (eqb (length s.transitions) s.header.transitions && ltb (length s.rows) set-rows)))) ≡ true →
-          cond x (header-frame s b) (cond y (reference-frame s b) (cond z (transition-frame s b) (row-frame s b))) ≡ found t → Few t
+          cond x (not s.has_header) (cond y (not s.has_reference) (cond z (s.has_reference && ltb (length s.transitions) s.header.transitions)
+          (s.has_reference && (eqb (length s.transitions) s.header.transitions && ltb (length s.rows) set_rows)))) ≡ true →
+          cond x (header_frame s b) (cond y (reference_frame s b) (cond z (transition_frame s b) (row_frame s b))) ≡ found t → Few t
       go true y z d e = few-header e
       go false true z d e = few-reference e
-      go false false true d e = few-transition (ltb-true (length s.transitions) s.header.transitions (and_right s.has-reference _ d)) e
-      go false false false d e = few-row (ltb-true (length s.rows) set-rows (and_right (eqb (length s.transitions) s.header.transitions) _ (and_right s.has-reference _ d))) e
+      go false false true d e = few_transition (ltb-true (length s.transitions) s.header.transitions (and_right s.has_reference _ d)) e
+      go false false false d e = few-row (ltb-true (length s.rows) set_rows (and_right (eqb (length s.transitions) s.header.transitions) _ (and_right s.has_reference _ d))) e
 
 pub few-frame : (s : Seen) (bs : List ℕ) (t : Seen) → Few s → frame s bs ≡ found t → Few t
 unfolding frame placed
 few-frame s [] t f e = refused-not e
 few-frame s (kind ∷ b) t f e =
-    go (is_known kind) (s.has-header || eqb kind 1) (eqb (length b) (due-length s.header kind (term-count b))) (is-due (progress-of s) kind) refl e
+    go (is_known kind) (s.has_header || eqb kind 1) (eqb (length b) (due_length s.header kind (term_count b))) (is_due (progress_of s) kind) refl e
   where
-    go : (x y z d : Bool) → is-due (progress-of s) kind ≡ d →
+    go : (x y z d : Bool) → is_due (progress_of s) kind ≡ d →
         passed (cond x (cond y (cond z (cond d Found (Refused Misplaced)) (Refused NoFrame)) (Refused Misplaced)) (Refused NoFrame)) (content s kind b) ≡ found t → Few t
     go true true true true d e = few-content s f b t kind d e
     go true true true false d e = refused-not e
@@ -117,9 +117,9 @@ module _ {A : Type 0} (n : ℕ) (d : A) (l m ts : List A) (i : ℕ) (x : A) (is 
 -- ---- how far reading has come
 pub record Reached (input : List ℕ) (p : Progress) (ts : List Transition) (rs : List ModelRow) (at : ℕ) : Type 0 where
   pub seen : Seen
-  pub counted : progress-of seen ≡ p
-  pub transitions : ts ≡ padded 64 zero-transition seen.transitions
-  pub rows : rs ≡ padded set-rows zero_row seen.rows
+  pub counted : progress_of seen ≡ p
+  pub transitions : ts ≡ padded 64 zero_transition seen.transitions
+  pub rows : rs ≡ padded set_rows zero_row seen.rows
   pub few : Few seen
   pub within : at ≤ length input
   pub same : remaining nothing input ≡ remaining seen (drop at input)
@@ -128,8 +128,8 @@ chosen : {input : List ℕ} {p : Progress} (a ts : List Transition) (b rs : List
     Reached input p (cond x a ts) (cond y b rs) at → Reached input p (cond x' a ts) (cond y' b rs) at
 chosen a ts b rs e f r = rw (e, f) at r
 
-pub reached-none : (input : List ℕ) → Reached input (progress-of nothing) (padded 64 zero-transition []) (padded set-rows zero_row []) 0
-reached-none input = record {
+pub reached_none : (input : List ℕ) → Reached input (progress_of nothing) (padded 64 zero_transition []) (padded set_rows zero_row []) 0
+reached_none input = record {
   seen = nothing;
   counted = refl;
   transitions = refl;
@@ -146,8 +146,8 @@ module _ (input : List ℕ) (p : Progress) (ts : List Transition) (rs : List Mod
   rows_next : p.rows ≡ length r.seen.rows
   rows_next = sym (ap (λ (q : Progress). q.rows) r.counted)
 
-  pub reached-few : Sound p.header × (p.transitions ≤ 64) × (p.rows ≤ set-rows)
-  reached-few = (subst (λ (q : Progress). Sound q.header) r.counted r.few.sound, omega (arith, transitions-next, r.few.transitions), omega (arith, rows_next, r.few.rows))
+  pub reached_few : Sound p.header × (p.transitions ≤ 64) × (p.rows ≤ set_rows)
+  reached_few = (subst (λ (q : Progress). Sound q.header) r.counted r.few.sound, omega (arith, transitions-next, r.few.transitions), omega (arith, rows_next, r.few.rows))
 
   -- at the end of the input
   pub ends-here : length input ≤ at → remaining nothing input ≡ cond (p.referenced && eqb p.transitions p.header.transitions) (found (tables r.seen)) (refused Misplaced)
@@ -156,22 +156,22 @@ module _ (input : List ℕ) (p : Progress) (ts : List Transition) (rs : List Mod
       r.same ∙ (rw (drop-done input at h)) ∙
       ap (λ (q : Progress). cond (q.referenced && eqb q.transitions q.header.transitions) (found (tables r.seen)) (refused Misplaced)) r.counted
 
-  pub tables-are : record { header = p.header; reference = p.reference; transitions = ts; rows = rs; count = p.rows } ≡ tables r.seen
+  pub tables_are : record { header = p.header; reference = p.reference; transitions = ts; rows = rs; count = p.rows } ≡ tables r.seen
   unfolding tables
-  tables-are = rw (r.transitions, r.rows) (ap (λ (q : Progress). record {
+  tables_are = rw (r.transitions, r.rows) (ap (λ (q : Progress). record {
     header = q.header;
     reference = q.reference;
-    transitions = padded 64 zero-transition r.seen.transitions;
-    rows = padded set-rows zero_row r.seen.rows;
+    transitions = padded 64 zero_transition r.seen.transitions;
+    rows = padded set_rows zero_row r.seen.rows;
     count = q.rows;
   }) (sym r.counted))
 
   -- a line that is none ends it
-  pub ends-broken : at < length input → first-bytes (drop at input) ≡ refused NoFrame → remaining nothing input ≡ refused NoFrame
+  pub ends-broken : at < length input → first_bytes (drop at input) ≡ refused NoFrame → remaining nothing input ≡ refused NoFrame
   unfolding and_then
   ends-broken h e = r.same ∙ goes_on r.seen (drop at input) (omega (arith, length-drop at input)) ∙ (rw e)
 
-  module _ (h : at < length input) (bs : List ℕ) (e : first-bytes (drop at input) ≡ found bs) where
+  module _ (h : at < length input) (bs : List ℕ) (e : first_bytes (drop at input) ≡ found bs) where
     line-next : remaining nothing input ≡ and_then (frame r.seen bs) (λ t. remaining t (drop (length bs * 2 + 1) (drop at input)))
     unfolding and_then
     line-next = r.same ∙ goes_on r.seen (drop at input) (omega (arith, length-drop at input)) ∙ (rw e)
@@ -182,14 +182,14 @@ module _ (input : List ℕ) (p : Progress) (ts : List Transition) (rs : List Mod
     ends-refused q g = line-next ∙ (rw g)
 
     -- a frame that is taken leads on
-    reached-more : (t : Seen) (f : Frame) → frame r.seen bs ≡ found t → Met f r.seen t →
+    reached_more : (t : Seen) (f : Frame) → frame r.seen bs ≡ found t → Met f r.seen t →
         Reached input (after p f) (cond (eqb f.kind 4) (set ts p.transitions f.transition) ts) (cond (eqb f.kind 3) (set rs p.rows f.row) rs) (at + (length bs * 2 + 1))
     unfolding and_then
-    reached-more t f g m = let few = few-frame r.seen bs t r.few g in record {
+    reached_more t f g m = let few = few-frame r.seen bs t r.few g in record {
       seen = t;
       counted = sym m.counted ∙ ap (λ (q : Progress). after q f) r.counted;
-      transitions = table_more 64 zero-transition r.seen.transitions t.transitions ts p.transitions f.transition r.transitions transitions-next few.transitions (eqb f.kind 4) m.transitions;
-      rows = table_more set-rows zero_row r.seen.rows t.rows rs p.rows f.row r.rows rows_next few.rows (eqb f.kind 3) m.rows;
+      transitions = table_more 64 zero_transition r.seen.transitions t.transitions ts p.transitions f.transition r.transitions transitions-next few.transitions (eqb f.kind 4) m.transitions;
+      rows = table_more set_rows zero_row r.seen.rows t.rows rs p.rows f.row r.rows rows_next few.rows (eqb f.kind 3) m.rows;
       few = few;
       within = omega (arith, front_length (drop at input) bs e, length-drop at input);
       same = line-next ∙ (rw (g, drop-drop (length bs * 2 + 1) at input));
@@ -197,28 +197,28 @@ module _ (input : List ℕ) (p : Progress) (ts : List Transition) (rs : List Mod
 
     -- the same by the kind, as the code goes on
     module _ (t : Seen) (f : Frame) (g : frame r.seen bs ≡ found t) (m : Met f r.seen t) (q : Progress) (is : q ≡ after p f) (n : ℕ) (count : length bs ≡ n) where
-      pub reached-transition : f.kind ≡ 4 → Reached input q (set ts p.transitions f.transition) rs (at + (n * 2 + 1))
-      reached-transition k =
-          rw (is, ← count) (chosen (set ts p.transitions f.transition) ts (set rs p.rows f.row) rs (eq-eqb f.kind 4 k) (ap (λ (z : ℕ). eqb z 3) k) (reached-more t f g m))
+      pub reached_transition : f.kind ≡ 4 → Reached input q (set ts p.transitions f.transition) rs (at + (n * 2 + 1))
+      reached_transition k =
+          rw (is, ← count) (chosen (set ts p.transitions f.transition) ts (set rs p.rows f.row) rs (eq-eqb f.kind 4 k) (ap (λ (z : ℕ). eqb z 3) k) (reached_more t f g m))
 
-      pub reached-row : f.kind ≡ 3 → Reached input q ts (set rs p.rows f.row) (at + (n * 2 + 1))
-      reached-row k = rw (is, ← count) (chosen (set ts p.transitions f.transition) ts (set rs p.rows f.row) rs (ap (λ (z : ℕ). eqb z 4) k) (eq-eqb f.kind 3 k) (reached-more t f g m))
+      pub reached_row : f.kind ≡ 3 → Reached input q ts (set rs p.rows f.row) (at + (n * 2 + 1))
+      reached_row k = rw (is, ← count) (chosen (set ts p.transitions f.transition) ts (set rs p.rows f.row) rs (ap (λ (z : ℕ). eqb z 4) k) (eq-eqb f.kind 3 k) (reached_more t f g m))
 
-      pub reached-other : (f.kind ≡ 4 → ⊥) → (f.kind ≡ 3 → ⊥) → Reached input q ts rs (at + (n * 2 + 1))
-      reached-other k l = rw (is, ← count) (chosen (set ts p.transitions f.transition) ts (set rs p.rows f.row) rs (ne_eqb f.kind 4 k) (ne_eqb f.kind 3 l) (reached-more t f g m))
+      pub reached_other : (f.kind ≡ 4 → ⊥) → (f.kind ≡ 3 → ⊥) → Reached input q ts rs (at + (n * 2 + 1))
+      reached_other k l = rw (is, ← count) (chosen (set ts p.transitions f.transition) ts (set rs p.rows f.row) rs (ne_eqb f.kind 4 k) (ne_eqb f.kind 3 l) (reached_more t f g m))
 
     -- a transition or a row that is taken has its place in the table
-    pub slot : (t : Seen) (f : Frame) → frame r.seen bs ≡ found t → Met f r.seen t → (f.kind ≡ 4 → p.transitions < 64) × (f.kind ≡ 3 → p.rows < set-rows)
+    pub slot : (t : Seen) (f : Frame) → frame r.seen bs ≡ found t → Met f r.seen t → (f.kind ≡ 4 → p.transitions < 64) × (f.kind ≡ 3 → p.rows < set_rows)
     slot t f g m =
         let few = few-frame r.seen bs t r.few g in (
-          λ k. room_for 64 zero-transition r.seen.transitions t.transitions ts p.transitions f.transition r.transitions transitions-next few.transitions (rw k at m.transitions),
-          λ k. room_for set-rows zero_row r.seen.rows t.rows rs p.rows f.row r.rows rows_next few.rows (rw k at m.rows),
+          λ k. room_for 64 zero_transition r.seen.transitions t.transitions ts p.transitions f.transition r.transitions transitions-next few.transitions (rw k at m.transitions),
+          λ k. room_for set_rows zero_row r.seen.rows t.rows rs p.rows f.row r.rows rows_next few.rows (rw k at m.rows),
         )
 
-pub read_short : (input : List ℕ) → length input ≤ input-limit → read input ≡ remaining nothing input
+pub read_short : (input : List ℕ) → length input ≤ input_limit → read input ≡ remaining nothing input
 unfolding read remaining
-read_short input h = rw (le-leb (length input) input-limit h)
+read_short input h = rw (le-leb (length input) input_limit h)
 
-pub read-long : (input : List ℕ) → input-limit < length input → read input ≡ refused NoFrame
+pub read-long : (input : List ℕ) → input_limit < length input → read input ≡ refused NoFrame
 unfolding read
-read-long input h = rw (lt-leb (length input) input-limit h)
+read-long input h = rw (lt-leb (length input) input_limit h)

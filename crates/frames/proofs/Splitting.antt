@@ -13,19 +13,19 @@ use Rattle.sets.specs.declared.Refusal.TheVariants.{NoFrame}
 use Rattle.sets.specs.Outcomes.{Result, found, refused, and_then}
 use Rattle.sets.proofs.Results.{refused-not, found-same}
 use Rattle.models.specs.declared.Model.{Model}
-use Rattle.frames.specs.Hex.{digit, pair, bytes_of, with_first, lines, first-bytes}
-use Rattle.frames.specs.Reading.{Seen, frame, line, all_lines, at-end}
+use Rattle.frames.specs.Hex.{digit, pair, bytes_of, with_first, lines, first_bytes}
+use Rattle.frames.specs.Reading.{Seen, frame, line, all_lines, at_end}
 use Rattle.frames.proofs.Pairs.{Below, foreign, value, pair-below}
 use Rattle.frames.proofs.Decoding.{no_end}
 
 -- what reading makes of the rest of the input
 unfoldable pub remaining : Seen → List ℕ → Result Model
-remaining s l = and_then (all_lines s (lines l).ended) (at-end (lines l).left)
+remaining s l = and_then (all_lines s (lines l).ended) (at_end (lines l).left)
 
 -- ---- a line that is one of digits
-no-end-second : (c d b : ℕ) → pair c d ≡ found b → eqb d 10 ≡ false
+no_end_second : (c d b : ℕ) → pair c d ≡ found b → eqb d 10 ≡ false
 unfolding pair digit and_then
-no-end-second c d b e = false_of (eqb d 10) (λ h. clash (digit c) (rw (eqb-true d 10 h) at e))
+no_end_second c d b e = false_of (eqb d 10) (λ h. clash (digit c) (rw (eqb-true d 10 h) at e))
   where
     clash : (o : Result ℕ) → and_then o (λ high. refused NoFrame) ≡ found b → ⊥
     clash (found h) e = refused-not e
@@ -37,10 +37,10 @@ pub record Front (l bs : List ℕ) : Type 0 where
   pub ended : (lines l).ended ≡ first ∷ (lines (drop (length bs * 2 + 1) l)).ended
   pub left : (lines l).left ≡ (lines (drop (length bs * 2 + 1) l)).left
 
-two-more : (c d : ℕ) (cs : List ℕ) → eqb c 10 ≡ false → eqb d 10 ≡ false → (first : List ℕ) (more : List (List ℕ)) → (lines cs).ended ≡ first ∷ more →
+two_more : (c d : ℕ) (cs : List ℕ) → eqb c 10 ≡ false → eqb d 10 ≡ false → (first : List ℕ) (more : List (List ℕ)) → (lines cs).ended ≡ first ∷ more →
     ((lines (c ∷ d ∷ cs)).ended ≡ (c ∷ d ∷ first) ∷ more) × ((lines (c ∷ d ∷ cs)).left ≡ (lines cs).left)
 unfolding lines
-two-more c d cs e f first more h = rw (e, f, h) (refl, refl)
+two_more c d cs e f first more h = rw (e, f, h) (refl, refl)
 
 empty-front : (c : ℕ) (cs : List ℕ) → eqb c 10 ≡ true → Front (c ∷ cs) []
 unfolding lines bytes_of
@@ -50,14 +50,14 @@ module _ (c d : ℕ) (cs : List ℕ) where
   pair-front : (b : ℕ) (bs : List ℕ) → pair c d ≡ found b → Front cs bs → Front (c ∷ d ∷ cs) (b ∷ bs)
   unfolding bytes_of and_then
   pair-front b bs e g =
-      let m = two-more c d cs (no_end c d b e) (no-end-second c d b e) g.first _ g.ended in
+      let m = two_more c d cs (no_end c d b e) (no_end_second c d b e) g.first _ g.ended in
       let k : suc (length bs) * 2 + 1 ≡ suc (suc (length bs * 2 + 1)) = omega arith in
       record { first = c ∷ d ∷ g.first; bytes = rw (e, g.bytes); ended = rw k m.0; left = rw k (m.1 ∙ g.left) }
 
 -- ---- a line that is none: it has no LF, or is refused
 pub data Broken (l : List ℕ) : Type 0 where
   unended : (c : ℕ) (cs : List ℕ) → (lines l).ended ≡ [] → (lines l).left ≡ c ∷ cs → Broken l
-  foreign-line : (cs : List ℕ) (more : List (List ℕ)) → (lines l).ended ≡ cs ∷ more → bytes_of cs ≡ refused NoFrame → Broken l
+  foreign_line : (cs : List ℕ) (more : List (List ℕ)) → (lines l).ended ≡ cs ∷ more → bytes_of cs ≡ refused NoFrame → Broken l
 
 -- a character in front of the first line
 lines_more : (c : ℕ) (cs : List ℕ) → eqb c 10 ≡ false → lines (c ∷ cs) ≡ with_first c (lines cs).ended (lines cs).left
@@ -79,18 +79,18 @@ one c = refl
 
 -- by what the lines behind the character are
 module _ (c : ℕ) (cs : List ℕ) (e : eqb c 10 ≡ false) where
-  in-front : (ended : List (List ℕ)) (left : List ℕ) → (lines cs).ended ≡ ended → (lines cs).left ≡ left →
+  in_front : (ended : List (List ℕ)) (left : List ℕ) → (lines cs).ended ≡ ended → (lines cs).left ≡ left →
       ((first : List ℕ) (more : List (List ℕ)) → (lines cs).ended ≡ first ∷ more → bytes_of (c ∷ first) ≡ refused NoFrame) → Broken (c ∷ cs)
-  in-front [] left a b f = unended c left (rw (lines_more c cs e, a)) (rw (lines_more c cs e, a, b))
-  in-front (first ∷ more) left a b f = foreign-line (c ∷ first) more (rw (lines_more c cs e, a)) (f first more a)
+  in_front [] left a b f = unended c left (rw (lines_more c cs e, a)) (rw (lines_more c cs e, a, b))
+  in_front (first ∷ more) left a b f = foreign_line (c ∷ first) more (rw (lines_more c cs e, a)) (f first more a)
 
   front-broken : ((first : List ℕ) (more : List (List ℕ)) → (lines cs).ended ≡ first ∷ more → bytes_of (c ∷ first) ≡ refused NoFrame) → Broken (c ∷ cs)
-  front-broken f = in-front (lines cs).ended (lines cs).left refl refl f
+  front-broken f = in_front (lines cs).ended (lines cs).left refl refl f
 
 -- the first character of a first line that has one
-head-is : (d x : ℕ) (cs r : List ℕ) (more : List (List ℕ)) → (lines (d ∷ cs)).ended ≡ (x ∷ r) ∷ more → x ≡ d
+head_is : (d x : ℕ) (cs r : List ℕ) (more : List (List ℕ)) → (lines (d ∷ cs)).ended ≡ (x ∷ r) ∷ more → x ≡ d
 unfolding lines
-head-is d x cs r more = go (eqb d 10) (lines cs).ended (lines cs).left
+head_is d x cs r more = go (eqb d 10) (lines cs).ended (lines cs).left
   where
     go : (b : Bool) (ended : List (List ℕ)) (left : List ℕ) → (cond b (record { ended = [] ∷ ended; left = left }) (with_first d ended left)).ended ≡ (x ∷ r) ∷ more → x ≡ d
     go true ended left e = let z : ◌≡◌ {A = ℕ} 0 1 = cc in absurd (omega arith)
@@ -103,99 +103,99 @@ module _ (c d : ℕ) (cs : List ℕ) where
     where
       refused-line : (first : List ℕ) (more : List (List ℕ)) → (lines (d ∷ cs)).ended ≡ first ∷ more → bytes_of (c ∷ first) ≡ refused NoFrame
       refused-line [] more a = one c
-      refused-line (x ∷ r) more a = rw (head-is d x cs r more a) (second-foreign c d r p)
+      refused-line (x ∷ r) more a = rw (head_is d x cs r more a) (second-foreign c d r p)
 
   later-broken : (b : ℕ) → pair c d ≡ found b → Broken cs → Broken (c ∷ d ∷ cs)
   unfolding lines bytes_of and_then
-  later-broken b e (unended x xs a f) = unended c (d ∷ x ∷ xs) (rw (no_end c d b e, no-end-second c d b e, a)) (rw (no_end c d b e, no-end-second c d b e, a, f))
-  later-broken b e (foreign-line first more a f) = foreign-line (c ∷ d ∷ first) more (rw (no_end c d b e, no-end-second c d b e, a)) (rw (e, f))
+  later-broken b e (unended x xs a f) = unended c (d ∷ x ∷ xs) (rw (no_end c d b e, no_end_second c d b e, a)) (rw (no_end c d b e, no_end_second c d b e, a, f))
+  later-broken b e (foreign_line first more a f) = foreign_line (c ∷ d ∷ first) more (rw (no_end c d b e, no_end_second c d b e, a)) (rw (e, f))
 
 ends-here : (c d b : ℕ) → pair c d ≡ found b → Broken (c ∷ d ∷ [])
 unfolding lines
-ends-here c d b e = unended c (d ∷ []) (rw (no_end c d b e, no-end-second c d b e)) (rw (no_end c d b e, no-end-second c d b e))
+ends-here c d b e = unended c (d ∷ []) (rw (no_end c d b e, no_end_second c d b e)) (rw (no_end c d b e, no_end_second c d b e))
 
 -- ---- the two together
-pub data Told-by : List ℕ → Result (List ℕ) → Type 0 where
-  broken : {l : List ℕ} → Broken l → Told-by l (refused NoFrame)
-  front : {l bs : List ℕ} → Front l bs → Told-by l (found bs)
+pub data ToldBy : List ℕ → Result (List ℕ) → Type 0 where
+  broken : {l : List ℕ} → Broken l → ToldBy l (refused NoFrame)
+  front : {l bs : List ℕ} → Front l bs → ToldBy l (found bs)
 
-alone : (c : ℕ) (b : Bool) → eqb c 10 ≡ b → Told-by (c ∷ []) (cond b (found []) (refused NoFrame))
+alone : (c : ℕ) (b : Bool) → eqb c 10 ≡ b → ToldBy (c ∷ []) (cond b (found []) (refused NoFrame))
 unfolding lines
 alone c true e = front (empty-front c [] e)
 alone c false e = broken {l = c ∷ []} (unended c [] (rw e) (rw e))
 
-paired : (c d : ℕ) (cs : List ℕ) (p : Result ℕ) → pair c d ≡ p → Below 256 p → (b : Bool) → eqb c 10 ≡ b → (o : Result (List ℕ)) → ((x : ℕ) (xs : List ℕ) → cs ≡ x ∷ xs → Told-by cs o) → (cs ≡ [] → o ≡ refused NoFrame) →
-    Told-by (c ∷ d ∷ cs) (cond b (found []) (and_then p (λ v. and_then o (λ bs. found (v ∷ bs)))))
+paired : (c d : ℕ) (cs : List ℕ) (p : Result ℕ) → pair c d ≡ p → Below 256 p → (b : Bool) → eqb c 10 ≡ b → (o : Result (List ℕ)) → ((x : ℕ) (xs : List ℕ) → cs ≡ x ∷ xs → ToldBy cs o) → (cs ≡ [] → o ≡ refused NoFrame) →
+    ToldBy (c ∷ d ∷ cs) (cond b (found []) (and_then p (λ v. and_then o (λ bs. found (v ∷ bs)))))
 unfolding and_then
 paired c d cs p e k true f o ih none = front (empty-front c (d ∷ cs) f)
 paired c d cs (refused NoFrame) e foreign false f o ih none = broken (pair-broken c d cs f e)
 paired c d [] (found v) e (value k) false f o ih none = rw (none refl) (broken (ends-here c d v e))
 paired c d (x ∷ xs) (found v) e (value k) false f o ih none = go o (ih x xs refl)
   where
-    go : (o : Result (List ℕ)) → Told-by (x ∷ xs) o → Told-by (c ∷ d ∷ x ∷ xs) (and_then o (λ bs. found (v ∷ bs)))
+    go : (o : Result (List ℕ)) → ToldBy (x ∷ xs) o → ToldBy (c ∷ d ∷ x ∷ xs) (and_then o (λ bs. found (v ∷ bs)))
     go o (broken h) = broken (later-broken c d (x ∷ xs) v e h)
     go o (front {bs = bs} h) = front (pair-front c d (x ∷ xs) v bs e h)
 
-told : (c : ℕ) (l : List ℕ) → Told-by (c ∷ l) (first-bytes (c ∷ l))
-unfolding first-bytes
+told : (c : ℕ) (l : List ℕ) → ToldBy (c ∷ l) (first_bytes (c ∷ l))
+unfolding first_bytes
 told c [] = alone c (eqb c 10) refl
 told c (d ∷ []) = paired c d [] (pair c d) refl (pair-below c d) (eqb c 10) refl (refused NoFrame) (λ x xs e. nothing-there x xs e) (λ e. refl)
   where
-    nothing-there : (x : ℕ) (xs : List ℕ) → [] ≡ x ∷ xs → Told-by [] (refused NoFrame)
+    nothing-there : (x : ℕ) (xs : List ℕ) → [] ≡ x ∷ xs → ToldBy [] (refused NoFrame)
     nothing-there x xs e = let z : ◌≡◌ {A = ℕ} 0 1 = cc in absurd (omega arith)
-told c (d ∷ x ∷ xs) = paired c d (x ∷ xs) (pair c d) refl (pair-below c d) (eqb c 10) refl (first-bytes (x ∷ xs)) (λ y ys e. told x xs) (λ e. something-there e)
+told c (d ∷ x ∷ xs) = paired c d (x ∷ xs) (pair c d) refl (pair-below c d) (eqb c 10) refl (first_bytes (x ∷ xs)) (λ y ys e. told x xs) (λ e. something_there e)
   where
-    something-there : x ∷ xs ≡ [] → first-bytes (x ∷ xs) ≡ refused NoFrame
-    something-there e = let z : ◌≡◌ {A = ℕ} 0 1 = cc in absurd (omega arith)
+    something_there : x ∷ xs ≡ [] → first_bytes (x ∷ xs) ≡ refused NoFrame
+    something_there e = let z : ◌≡◌ {A = ℕ} 0 1 = cc in absurd (omega arith)
 
 -- ---- reading goes on behind the first line
 broken-ends : (s : Seen) (l : List ℕ) → Broken l → remaining s l ≡ refused NoFrame
 unfolding remaining all_lines line and_then
 broken-ends s l (unended c cs a b) = rw (a, b)
-broken-ends s l (foreign-line cs more a b) = rw (a, b)
+broken-ends s l (foreign_line cs more a b) = rw (a, b)
 
 front-goes-on : (s : Seen) (l bs : List ℕ) → Front l bs → remaining s l ≡ and_then (frame s bs) (λ t. remaining t (drop (length bs * 2 + 1) l))
 unfolding remaining all_lines line and_then
 front-goes-on s l bs g = rw (g.ended, g.left, g.bytes) (go (frame s bs))
   where
     go : (o : Result Seen) →
-        and_then (and_then o (λ t. all_lines t (lines (drop (length bs * 2 + 1) l)).ended)) (at-end (lines (drop (length bs * 2 + 1) l)).left) ≡
-        and_then o (λ t. and_then (all_lines t (lines (drop (length bs * 2 + 1) l)).ended) (at-end (lines (drop (length bs * 2 + 1) l)).left))
+        and_then (and_then o (λ t. all_lines t (lines (drop (length bs * 2 + 1) l)).ended)) (at_end (lines (drop (length bs * 2 + 1) l)).left) ≡
+        and_then o (λ t. and_then (all_lines t (lines (drop (length bs * 2 + 1) l)).ended) (at_end (lines (drop (length bs * 2 + 1) l)).left))
     go (found t) = refl
     go (refused q) = refl
 
-next-line : (s : Seen) (l : List ℕ) (o : Result (List ℕ)) → Told-by l o → remaining s l ≡ and_then o (λ bs. and_then (frame s bs) (λ t. remaining t (drop (length bs * 2 + 1) l)))
+next-line : (s : Seen) (l : List ℕ) (o : Result (List ℕ)) → ToldBy l o → remaining s l ≡ and_then o (λ bs. and_then (frame s bs) (λ t. remaining t (drop (length bs * 2 + 1) l)))
 unfolding and_then
 next-line s l o (broken h) = broken-ends s l h
 next-line s l o (front {bs = bs} h) = front-goes-on s l bs h
 
-pub goes_on : (s : Seen) (l : List ℕ) → 0 < length l → remaining s l ≡ and_then (first-bytes l) (λ bs. and_then (frame s bs) (λ t. remaining t (drop (length bs * 2 + 1) l)))
+pub goes_on : (s : Seen) (l : List ℕ) → 0 < length l → remaining s l ≡ and_then (first_bytes l) (λ bs. and_then (frame s bs) (λ t. remaining t (drop (length bs * 2 + 1) l)))
 goes_on s [] h = absurd (omega arith)
-goes_on s (c ∷ l) h = next-line s (c ∷ l) (first-bytes (c ∷ l)) (told c l)
+goes_on s (c ∷ l) h = next-line s (c ∷ l) (first_bytes (c ∷ l)) (told c l)
 
 -- how long the first line is
-pub front_length : (l : List ℕ) (bs : List ℕ) → first-bytes l ≡ found bs → length bs * 2 + 1 ≤ length l
-unfolding first-bytes and_then
+pub front_length : (l : List ℕ) (bs : List ℕ) → first_bytes l ≡ found bs → length bs * 2 + 1 ≤ length l
+unfolding first_bytes and_then
 front_length [] bs e = refused-not e
 front_length (c ∷ []) bs e = go (eqb c 10) e
   where
     go : (b : Bool) → cond b (found []) (refused NoFrame) ≡ found bs → length bs * 2 + 1 ≤ 1
     go true e = rw (← found-same e) (omega arith)
     go false e = refused-not e
-front_length (c ∷ d ∷ cs) bs e = go (eqb c 10) (pair c d) (first-bytes cs) refl e (front_length cs)
+front_length (c ∷ d ∷ cs) bs e = go (eqb c 10) (pair c d) (first_bytes cs) refl e (front_length cs)
   where
-    go : (b : Bool) (p : Result ℕ) (o : Result (List ℕ)) → first-bytes cs ≡ o → cond b (found []) (and_then p (λ v. and_then o (λ xs. found (v ∷ xs)))) ≡ found bs →
-        ((xs : List ℕ) → first-bytes cs ≡ found xs → length xs * 2 + 1 ≤ length cs) → length bs * 2 + 1 ≤ suc (suc (length cs))
+    go : (b : Bool) (p : Result ℕ) (o : Result (List ℕ)) → first_bytes cs ≡ o → cond b (found []) (and_then p (λ v. and_then o (λ xs. found (v ∷ xs)))) ≡ found bs →
+        ((xs : List ℕ) → first_bytes cs ≡ found xs → length xs * 2 + 1 ≤ length cs) → length bs * 2 + 1 ≤ suc (suc (length cs))
     go true p o f e ih = rw (← found-same e) (omega arith)
     go false (refused q) o f e ih = refused-not e
     go false (found v) (refused q) f e ih = refused-not e
     go false (found v) (found xs) f e ih = let k : v ∷ xs ≡ bs = found-same e in rw (← k) (omega (arith, ih xs f))
 
-pub only-no-frame : (l : List ℕ) (q : Refusal) → first-bytes l ≡ refused q → q ≡ NoFrame
-unfolding first-bytes
-only-no-frame [] q e = cc
-only-no-frame (c ∷ l) q e = go (first-bytes (c ∷ l)) e (told c l)
+pub only_no_frame : (l : List ℕ) (q : Refusal) → first_bytes l ≡ refused q → q ≡ NoFrame
+unfolding first_bytes
+only_no_frame [] q e = cc
+only_no_frame (c ∷ l) q e = go (first_bytes (c ∷ l)) e (told c l)
   where
-    go : (o : Result (List ℕ)) → o ≡ refused q → Told-by (c ∷ l) o → q ≡ NoFrame
+    go : (o : Result (List ℕ)) → o ≡ refused q → ToldBy (c ∷ l) o → q ≡ NoFrame
     go o e (broken h) = cc
     go o e (front h) = refused-not (sym e)

@@ -9,9 +9,9 @@ unfoldable pub digit : ℕ → Result ℕ
 digit c = cond (leb 48 c && leb c 57) (found (c - 48)) (cond (leb 65 c && leb c 70) (found (c - 55)) (refused NoFrame))
 
 -- what was found, or another number
-abbrev pub number-or : ℕ → Result ℕ → ℕ
-number-or n (found v) = v
-number-or n (refused r) = n
+abbrev pub number_or : ℕ → Result ℕ → ℕ
+number_or n (found v) = v
+number_or n (refused r) = n
 
 -- two digits of a byte
 unfoldable pub pair : ℕ → ℕ → Result ℕ
@@ -53,19 +53,19 @@ lines [] = record { ended = []; left = [] }
 lines (c ∷ cs) = let rest = lines cs in cond (eqb c 10) (new_line rest) (with_first c rest.ended rest.left)
 
 -- the bytes of the line at the front, up to its LF: what a line has been read as before it is known where it ends
-unfoldable pub first-bytes : List ℕ → Result (List ℕ)
-first-bytes [] = refused NoFrame
-first-bytes (c ∷ []) = cond (eqb c 10) (found []) (refused NoFrame)
-first-bytes (c ∷ d ∷ cs) = cond (eqb c 10) (found []) (and_then (pair c d) (λ b. and_then (first-bytes cs) (λ bs. found (b ∷ bs))))
+unfoldable pub first_bytes : List ℕ → Result (List ℕ)
+first_bytes [] = refused NoFrame
+first_bytes (c ∷ []) = cond (eqb c 10) (found []) (refused NoFrame)
+first_bytes (c ∷ d ∷ cs) = cond (eqb c 10) (found []) (and_then (pair c d) (λ b. and_then (first_bytes cs) (λ bs. found (b ∷ bs))))
 
 -- ---- writing
 -- n below 16 as a digit, a byte as two, bytes as a line
-abbrev pub digit-of : ℕ → ℕ
-digit-of n = cond (ltb n 10) (48 + n) (55 + n)
+abbrev pub digit_of : ℕ → ℕ
+digit_of n = cond (ltb n 10) (48 + n) (55 + n)
 
 unfoldable pub digits_of : List ℕ → List ℕ
 digits_of [] = []
-digits_of (b ∷ bs) = digit-of (b / 16) ∷ digit-of (b % 16) ∷ digits_of bs
+digits_of (b ∷ bs) = digit_of (b / 16) ∷ digit_of (b % 16) ∷ digits_of bs
 
 unfoldable pub line_of : List ℕ → List ℕ
 line_of bs = digits_of bs ++ (10 ∷ [])

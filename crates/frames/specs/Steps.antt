@@ -11,15 +11,15 @@ use Rattle.frames.specs.declared.Line.{Line}
 use Rattle.frames.specs.declared.Progress.{Progress}
 use Rattle.frames.specs.declared.Frame.{Frame}
 use Rattle.frames.specs.declared.Reading.{Reading}
-use Rattle.frames.specs.Reading.{Seen, nothing, progress-of, tables}
+use Rattle.frames.specs.Reading.{Seen, nothing, progress_of, tables}
 
 -- the longest frame: a row of 255 terms
-abbrev pub frame-limit : ℕ
-frame-limit = 1280
+abbrev pub frame_limit : ℕ
+frame_limit = 1280
 
 -- the bytes of a line, and what the decoder leaves of them
 abbrev pub Decoded : Result (List ℕ) → List ℕ → Line → Type 0
-Decoded (found bs) to r = (r.good ≡ true) × (r.count ≡ length bs) × (take (length bs) to ≡ take frame-limit bs)
+Decoded (found bs) to r = (r.good ≡ true) × (r.count ≡ length bs) × (take (length bs) to ≡ take frame_limit bs)
 Decoded (refused q) to r = r.good ≡ false
 
 -- ---- a header that fits has no more clocks, parameters and transitions than the tables take
@@ -42,7 +42,7 @@ after p f = record {
 -- the frame leads from s to t
 pub record Met (f : Frame) (s t : Seen) : Type 0 where
   pub outcome : f.outcome ≡ Found
-  pub counted : after (progress-of s) f ≡ progress-of t
+  pub counted : after (progress_of s) f ≡ progress_of t
   pub transitions : t.transitions ≡ cond (eqb f.kind 4) (s.transitions ++ (f.transition ∷ [])) s.transitions
   pub rows : t.rows ≡ cond (eqb f.kind 3) (s.rows ++ (f.row ∷ [])) s.rows
 
@@ -51,13 +51,13 @@ Told f s (found t) = Met f s t
 Told f s (refused q) = f.outcome ≡ Refused q
 
 -- ---- what the reader answers: the model, or the refusal with tables of zeros
-abbrev pub reading-of : Result Model → Reading
-reading-of (found m) = record { model = m; outcome = Found }
-reading-of (refused q) = record { model = tables nothing; outcome = Refused q }
+abbrev pub reading_of : Result Model → Reading
+reading_of (found m) = record { model = m; outcome = Found }
+reading_of (refused q) = record { model = tables nothing; outcome = Refused q }
 
 -- at the end of the input: found, unless a frame is missing
 abbrev pub finished : Progress → List Transition → List ModelRow → Reading
 finished p ts rs =
-    reading-of (cond (p.referenced && eqb p.transitions p.header.transitions)
+    reading_of (cond (p.referenced && eqb p.transitions p.header.transitions)
     (found (record { header = p.header; reference = p.reference; transitions = ts; rows = rs; count = p.rows }))
     (refused Misplaced))

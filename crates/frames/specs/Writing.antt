@@ -3,7 +3,7 @@ use Rattle.std.specs.Prelude.{Bool, cond, List, [], ◌∷◌, ◌++◌, ℕ, su
 use Rattle.integers.specs.Signs.{is_zero}
 use Rattle.rows.specs.declared.Row.{Row}
 use Rattle.sets.specs.declared.Outcome.{Outcome}
-use Rattle.sets.specs.Outcomes.{outcome-number}
+use Rattle.sets.specs.Outcomes.{outcome_number}
 use Rattle.frames.specs.declared.Written.{Written}
 use Rattle.frames.specs.Hex.{line_of, big_endian, pattern}
 
@@ -18,46 +18,46 @@ pub record Wrote (cs : List ℕ) (at : ℕ) (to to' : List ℕ) (next : ℕ) : T
   pub store : to' ≡ over cs at to
 
 -- a term's bytes: its entry number and its coefficient; none where it is 0
-abbrev pub term-bytes : ℕ → ℤ → List ℕ
-term-bytes i z = cond (is_zero z) [] (i ∷ big_endian 4 (pattern z))
+abbrev pub term_bytes : ℕ → ℤ → List ℕ
+term_bytes i z = cond (is_zero z) [] (i ∷ big_endian 4 (pattern z))
 
 -- a row's terms: entry number and coefficient of each nonzero entry, from entry i on
-unfoldable pub terms-of : ℕ → List ℤ → List ℕ
-terms-of i [] = []
-terms-of i (z ∷ l) = term-bytes i z ++ terms-of (suc i) l
+unfoldable pub terms_of : ℕ → List ℤ → List ℕ
+terms_of i [] = []
+terms_of i (z ∷ l) = term_bytes i z ++ terms_of (suc i) l
 
-unfoldable pub term-number : List ℤ → ℕ
-term-number [] = 0
-term-number (z ∷ l) = let rest = term-number l in cond (is_zero z) rest (suc rest)
+unfoldable pub term_number : List ℤ → ℕ
+term_number [] = 0
+term_number (z ∷ l) = let rest = term_number l in cond (is_zero z) rest (suc rest)
 
-abbrev pub flag-byte : Bool → ℕ
-flag-byte strict = cond strict 1 0
+abbrev pub flag_byte : Bool → ℕ
+flag_byte strict = cond strict 1 0
 
 -- kind 03, owner kind 0, owner 0, strict, number of terms; then the terms
-abbrev pub row-head : Bool → ℕ → List ℕ
-row-head strict terms = 3 ∷ 0 ∷ 0 ∷ flag-byte strict ∷ terms ∷ []
+abbrev pub row_head : Bool → ℕ → List ℕ
+row_head strict terms = 3 ∷ 0 ∷ 0 ∷ flag_byte strict ∷ terms ∷ []
 
-unfoldable pub row-bytes : Row → List ℕ
-row-bytes r = row-head r.strict (term-number r.entries) ++ terms-of 0 r.entries
+unfoldable pub row_bytes : Row → List ℕ
+row_bytes r = row_head r.strict (term_number r.entries) ++ terms_of 0 r.entries
 
-unfoldable pub row-lines : List Row → List ℕ
-row-lines [] = []
-row-lines (r ∷ rs) = line_of (row-bytes r) ++ row-lines rs
+unfoldable pub row_lines : List Row → List ℕ
+row_lines [] = []
+row_lines (r ∷ rs) = line_of (row_bytes r) ++ row_lines rs
 
 -- states kept in the last attempt, new attempts begun, successors formed
-abbrev pub count-bytes : ℕ → ℕ → ℕ → List ℕ
-count-bytes states attempts formed = big_endian 2 states ++ big_endian 2 attempts ++ big_endian 4 formed
+abbrev pub count_bytes : ℕ → ℕ → ℕ → List ℕ
+count_bytes states attempts formed = big_endian 2 states ++ big_endian 2 attempts ++ big_endian 4 formed
 
 -- 05, outcome, the counts, rows
-unfoldable pub answer-bytes : Outcome → ℕ → ℕ → ℕ → ℕ → List ℕ
-answer-bytes outcome states attempts formed rows = 5 ∷ outcome-number outcome ∷ (count-bytes states attempts formed ++ (rows ∷ []))
+unfoldable pub answer_bytes : Outcome → ℕ → ℕ → ℕ → ℕ → List ℕ
+answer_bytes outcome states attempts formed rows = 5 ∷ outcome_number outcome ∷ (count_bytes states attempts formed ++ (rows ∷ []))
 
 -- the whole output; on a refusal the region is empty, so rows is 0 and no frame follows
-unfoldable pub answer-lines : Outcome → ℕ → ℕ → ℕ → List Row → List ℕ
-answer-lines outcome states attempts formed region = line_of (answer-bytes outcome states attempts formed (length region)) ++ row-lines region
+unfoldable pub answer_lines : Outcome → ℕ → ℕ → ℕ → List Row → List ℕ
+answer_lines outcome states attempts formed region = line_of (answer_bytes outcome states attempts formed (length region)) ++ row_lines region
 
 -- what the writer leaves: all of it from the front on, the rest as it was; or nothing where there is no room
-pub record Written-is (cs to to' : List ℕ) (r : Written) : Type 0 where
+pub record WrittenIs (cs to to' : List ℕ) (r : Written) : Type 0 where
   pub fits : r.fits ≡ leb (length cs) (length to)
   pub count : r.count ≡ cond (leb (length cs) (length to)) (length cs) 0
   pub store : to' ≡ cond (leb (length cs) (length to)) (over cs 0 to) to

@@ -1,15 +1,15 @@
 // Bytes written as digits into a lent store, each function from a place on; it answers the place behind what it wrote.
 ghost use Rattle.std.specs.Prelude.{◌≡◌, cond, [], ◌∷◌, ◌+◌, ◌*◌, ◌^◌, ◌≤◌, ◌<◌, length};
 ghost use Rattle.integers.specs.Signs.{is_zero};
-ghost use Rattle.frames.specs.Hex.{digit-of, digits_of, line_of, big_endian, pattern};
-ghost use Rattle.frames.specs.Writing.{Wrote, term-bytes, terms-of, term-number, row-head, row-bytes};
+ghost use Rattle.frames.specs.Hex.{digit_of, digits_of, line_of, big_endian, pattern};
+ghost use Rattle.frames.specs.Writing.{Wrote, term_bytes, terms_of, term_number, row_head, row_bytes};
 
 use rows::Row;
 
 // Inner step.
 fn digit_of(n: u8) -> u8
     requires { n < 16 }
-    ensures { result ≡ digit-of n }
+    ensures { result ≡ digit_of n }
 {
     if n < 10 {
         return 48 + n;
@@ -57,8 +57,8 @@ fn pattern(z: i32) -> usize
 
 // Inner step: the term of entry i, or nothing where it is 0.
 fn put_term(to: &mut [u8], at: usize, i: usize, z: i32) -> usize
-    requires { (i < 16) × (at + length (digits_of (term-bytes i z)) ≤ length to.old) }
-    ensures { Wrote (digits_of (term-bytes i z)) at to.old to.new result }
+    requires { (i < 16) × (at + length (digits_of (term_bytes i z)) ≤ length to.old) }
+    ensures { Wrote (digits_of (term_bytes i z)) at to.old to.new result }
 {
     if z == 0 {
         return at;
@@ -69,8 +69,8 @@ fn put_term(to: &mut [u8], at: usize, i: usize, z: i32) -> usize
 
 // Inner step: all terms of a row.
 pub fn put_terms(to: &mut [u8], at: usize, e: [i32; 16]) -> usize
-    requires { at + length (digits_of (terms-of 0 e)) ≤ length to.old }
-    ensures { Wrote (digits_of (terms-of 0 e)) at to.old to.new result }
+    requires { at + length (digits_of (terms_of 0 e)) ≤ length to.old }
+    ensures { Wrote (digits_of (terms_of 0 e)) at to.old to.new result }
 {
     let mut next = at;
     for i in 0..16 {
@@ -80,7 +80,7 @@ pub fn put_terms(to: &mut [u8], at: usize, e: [i32; 16]) -> usize
 }
 
 pub fn term_number(e: [i32; 16]) -> usize
-    ensures { (result ≡ term-number e) × (result ≤ 16) }
+    ensures { (result ≡ term_number e) × (result ≤ 16) }
 {
     let mut n: usize = 0;
     for i in 0..16 {
@@ -108,7 +108,7 @@ pub fn put_end(to: &mut [u8], at: usize) -> usize
 // Inner step: kind 03, owner kind 0, owner 0, strict, number of terms.
 fn put_head(to: &mut [u8], at: usize, strict: bool, terms: u8) -> usize
     requires { at + 10 ≤ length to.old }
-    ensures { Wrote (digits_of (row-head strict terms)) at to.old to.new result }
+    ensures { Wrote (digits_of (row_head strict terms)) at to.old to.new result }
 {
     let owner = put_two(to, at, 768);
     let flag = put_two(to, owner, number_of(strict));
@@ -117,7 +117,7 @@ fn put_head(to: &mut [u8], at: usize, strict: bool, terms: u8) -> usize
 
 // How many characters the line of a row has.
 pub fn row_length(r: Row) -> usize
-    ensures { (result ≡ length (line_of (row-bytes r))) × (result ≤ 171) }
+    ensures { (result ≡ length (line_of (row_bytes r))) × (result ≤ 171) }
 {
     let e = r.entries;
     term_number(e) * 10 + 11
@@ -125,8 +125,8 @@ pub fn row_length(r: Row) -> usize
 
 // Inner step: the line of a row.
 pub fn put_row(to: &mut [u8], at: usize, r: Row) -> usize
-    requires { at + length (line_of (row-bytes r)) ≤ length to.old }
-    ensures { Wrote (line_of (row-bytes r)) at to.old to.new result }
+    requires { at + length (line_of (row_bytes r)) ≤ length to.old }
+    ensures { Wrote (line_of (row_bytes r)) at to.old to.new result }
 {
     let e = r.entries;
     let terms = put_head(to, at, r.strict, term_number(e) as u8);

@@ -1,10 +1,10 @@
 // Hexadecimal digits, bytes of two digits, and numbers of four bytes.
 ghost use Rattle.std.specs.Prelude.{◌≡◌, ◌+◌, ◌*◌, ◌^◌, ◌≤◌, ◌<◌, length};
-ghost use Rattle.frames.specs.Hex.{digit, pair, number-or, word, signed};
+ghost use Rattle.frames.specs.Hex.{digit, pair, number_or, word, signed};
 
 // A digit's value, or 16 for a foreign character.
 pub fn digit(c: u8) -> u8
-    ensures { result ≡ number-or 16 (digit c) }
+    ensures { result ≡ number_or 16 (digit c) }
 {
     if c < 48 {
         return 16;
@@ -23,7 +23,7 @@ pub fn digit(c: u8) -> u8
 
 // The byte of two digits, or 256 where one of them is foreign.
 pub fn pair(c: u8, d: u8) -> u16
-    ensures { result ≡ number-or 256 (pair c d) }
+    ensures { result ≡ number_or 256 (pair c d) }
 {
     let high = digit(c);
     let low = digit(d);

@@ -1,12 +1,12 @@
 // The hex exchange: a model read from its frames, and the answer written.
 ghost use Rattle.std.specs.Prelude.{◌≡◌, [], length, ◌*◌, ◌≤◌};
-ghost use Rattle.rows.specs.Rows.{row-numbers, set-rows};
+ghost use Rattle.rows.specs.Rows.{row_numbers, set_rows};
 ghost use Rattle.sets.specs.Outcomes.{refused};
 ghost use Rattle.sets.specs.Stores.{rows_at};
 ghost use Rattle.models.specs.Automaton.{padded};
-ghost use Rattle.frames.specs.Reading.{nothing, zero-transition, zero_row, tables, read};
-ghost use Rattle.frames.specs.Steps.{frame-limit, reading-of, finished};
-ghost use Rattle.frames.specs.Writing.{Written-is, answer-lines};
+ghost use Rattle.frames.specs.Reading.{nothing, zero_transition, zero_row, tables, read};
+ghost use Rattle.frames.specs.Steps.{frame_limit, reading_of, finished};
+ghost use Rattle.frames.specs.Writing.{WrittenIs, answer_lines};
 
 use models::{Header, Model, ModelRow, Reference, Transition};
 use sets::{Outcome, Refusal};
@@ -62,19 +62,19 @@ pub struct Reading {
 }
 
 fn no_transitions() -> [Transition; 64]
-    ensures { result ≡ padded 64 zero-transition [] }
+    ensures { result ≡ padded 64 zero_transition [] }
 {
     [steps::no_transition(); 64]
 }
 
 fn no_rows() -> [ModelRow; 128]
-    ensures { result ≡ padded set-rows zero_row [] }
+    ensures { result ≡ padded set_rows zero_row [] }
 {
     [steps::no_row(); 128]
 }
 
 fn no_bytes() -> [u8; 1280]
-    ensures { length result ≡ frame-limit }
+    ensures { length result ≡ frame_limit }
 {
     [0; 1280]
 }
@@ -92,7 +92,7 @@ fn no_model() -> Model
 }
 
 fn refused(q: Refusal) -> Reading
-    ensures { result ≡ reading-of (refused q) }
+    ensures { result ≡ reading_of (refused q) }
 {
     Reading {
         model: no_model(),
@@ -102,7 +102,7 @@ fn refused(q: Refusal) -> Reading
 
 // A model from its frames, or the first refusal of 1 to 6.
 pub fn read(input: &[u8]) -> Reading
-    ensures { result ≡ reading-of (read input.now) }
+    ensures { result ≡ reading_of (read input.now) }
 {
     if 65_536 < input.len() {
         return refused(Refusal::NoFrame);
@@ -175,8 +175,8 @@ pub fn write_answer(
     rows: usize,
     to: &mut [u8],
 ) -> Written
-    requires { (rows ≤ set-rows) × (rows * row-numbers ≤ length region.now) }
-    ensures { Written-is (answer-lines outcome states attempts formed (rows_at region.now 0 rows)) to.old to.new result }
+    requires { (rows ≤ set_rows) × (rows * row_numbers ≤ length region.now) }
+    ensures { WrittenIs (answer_lines outcome states attempts formed (rows_at region.now 0 rows)) to.old to.new result }
 {
     let all = regions::region_length(region, rows) + 23;
     if to.len() < all {

@@ -1,7 +1,7 @@
 // The line at a place of the input: its bytes, up to its LF.
 ghost use Rattle.std.specs.Prelude.{◌≡◌, ◌+◌, ◌≤◌, ◌<◌, eqb, length, get_or, set, drop};
-ghost use Rattle.frames.specs.Hex.{first-bytes};
-ghost use Rattle.frames.specs.Steps.{frame-limit, Decoded};
+ghost use Rattle.frames.specs.Hex.{first_bytes};
+ghost use Rattle.frames.specs.Steps.{frame_limit, Decoded};
 
 use crate::Line;
 
@@ -34,8 +34,8 @@ fn ended(input: &[u8], at: usize, n: usize) -> Line
 // Inner step: the line that begins at a place: how many bytes it has, and the first 1,280 of them. One pass, and bytes beyond those
 // are only counted: a line may be as long as the input.
 pub fn decode(input: &[u8], from: usize, to: &mut [u8]) -> Line
-    requires { (from ≤ length input.now) × (length to.old ≡ frame-limit) }
-    ensures { (length to.new ≡ frame-limit) × Decoded (first-bytes (drop from input.now)) to.new result }
+    requires { (from ≤ length input.now) × (length to.old ≡ frame_limit) }
+    ensures { (length to.new ≡ frame_limit) × Decoded (first_bytes (drop from input.now)) to.new result }
 {
     let mut at = from;
     let mut n: usize = 0;

@@ -1,9 +1,9 @@
 // The answer: its frame 05, then the region as frames 03.
 ghost use Rattle.std.specs.Prelude.{◌≡◌, ◌+◌, ◌*◌, ◌≤◌, length};
-ghost use Rattle.rows.specs.Rows.{row-numbers, set-rows};
+ghost use Rattle.rows.specs.Rows.{row_numbers, set_rows};
 ghost use Rattle.sets.specs.Stores.{rows_at};
 ghost use Rattle.frames.specs.Hex.{digits_of, line_of};
-ghost use Rattle.frames.specs.Writing.{Wrote, row-lines, count-bytes, answer-bytes};
+ghost use Rattle.frames.specs.Writing.{Wrote, row_lines, count_bytes, answer_bytes};
 
 use crate::answers;
 use rows::Row;
@@ -11,8 +11,8 @@ use sets::Outcome;
 
 // Inner step: how many characters the lines of the region have.
 pub fn region_length(region: &[i32], n: usize) -> usize
-    requires { (n ≤ set-rows) × (n * row-numbers ≤ length region.now) }
-    ensures { (result ≡ length (row-lines (rows_at region.now 0 n))) × (result ≤ n * 171) }
+    requires { (n ≤ set_rows) × (n * row_numbers ≤ length region.now) }
+    ensures { (result ≡ length (row_lines (rows_at region.now 0 n))) × (result ≤ n * 171) }
 {
     let mut total: usize = 0;
     for i in 0..n {
@@ -23,8 +23,8 @@ pub fn region_length(region: &[i32], n: usize) -> usize
 
 // Inner step: the lines of the region.
 pub fn put_region(to: &mut [u8], at: usize, region: &[i32], n: usize) -> usize
-    requires { (n ≤ set-rows) × (n * row-numbers ≤ length region.now) × (at + length (row-lines (rows_at region.now 0 n)) ≤ length to.old) }
-    ensures { Wrote (row-lines (rows_at region.now 0 n)) at to.old to.new result }
+    requires { (n ≤ set_rows) × (n * row_numbers ≤ length region.now) × (at + length (row_lines (rows_at region.now 0 n)) ≤ length to.old) }
+    ensures { Wrote (row_lines (rows_at region.now 0 n)) at to.old to.new result }
 {
     let mut next = at;
     for i in 0..n {
@@ -36,7 +36,7 @@ pub fn put_region(to: &mut [u8], at: usize, region: &[i32], n: usize) -> usize
 // Inner step: states, new attempts and successors.
 fn put_counts(to: &mut [u8], at: usize, states: usize, attempts: usize, formed: usize) -> usize
     requires { at + 16 ≤ length to.old }
-    ensures { Wrote (digits_of (count-bytes states attempts formed)) at to.old to.new result }
+    ensures { Wrote (digits_of (count_bytes states attempts formed)) at to.old to.new result }
 {
     let second = answers::put_two(to, at, states);
     let third = answers::put_two(to, second, attempts);
@@ -53,7 +53,7 @@ pub fn put_answer(
     rows: u8,
 ) -> usize
     requires { 23 ≤ length to.old }
-    ensures { Wrote (line_of (answer-bytes outcome states attempts formed rows)) 0 to.old to.new result }
+    ensures { Wrote (line_of (answer_bytes outcome states attempts formed rows)) 0 to.old to.new result }
 {
     let kind = answers::put_byte(to, 0, 5);
     let counts = answers::put_byte(to, kind, outcome.number());

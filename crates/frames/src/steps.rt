@@ -1,8 +1,8 @@
 // A frame met: whether it is in its place, and what is taken from it.
 ghost use Rattle.std.specs.Prelude.{◌≡◌, cond, ◌&&◌, ◌||◌, List, [], leb, eqb, ℕ, ◌+◌, ◌*◌, ◌≤◌, ◌<◌, length, take};
 ghost use Rattle.sets.specs.declared.Outcome.{Outcome};
-ghost use Rattle.frames.specs.Reading.{Seen, progress-of, due-length, is-due, placed, term-count, header-frame, reference-frame, transition-frame, row-frame, content, frame, nothing, reference-table, zero-transition, zero_row};
-ghost use Rattle.frames.specs.Steps.{frame-limit, after, Told, Sound};
+ghost use Rattle.frames.specs.Reading.{Seen, progress_of, due_length, is_due, placed, term_count, header_frame, reference_frame, transition_frame, row_frame, content, frame, nothing, reference_table, zero_transition, zero_row};
+ghost use Rattle.frames.specs.Steps.{frame_limit, after, Told, Sound};
 
 use crate::{Frame, Progress, frames};
 use models::{Header, ModelRow, Reference, Transition};
@@ -34,7 +34,7 @@ pub fn no_header() -> Header
 }
 
 pub fn no_reference() -> Reference
-    ensures { result ≡ reference-table [] }
+    ensures { result ≡ reference_table [] }
 {
     Reference {
         denominator: 0,
@@ -43,7 +43,7 @@ pub fn no_reference() -> Reference
 }
 
 pub fn no_transition() -> Transition
-    ensures { result ≡ zero-transition }
+    ensures { result ≡ zero_transition }
 {
     Transition {
         source: 0,
@@ -67,7 +67,7 @@ pub fn no_row() -> ModelRow
 // Inner step: 3.
 fn header_frame(b: &[u8]) -> Frame
     requires { length b.now ≡ 4 }
-    ensures { (s : Seen) → Told result s (header-frame s b.now) }
+    ensures { (s : Seen) → Told result s (header_frame s b.now) }
 {
     let h = frames::header_of(b);
     if !h.fits() {
@@ -81,7 +81,7 @@ fn header_frame(b: &[u8]) -> Frame
 // Inner step: 4.
 fn reference_frame(h: Header, b: &[u8]) -> Frame
     requires { (h.parameters ≤ 8) × (length b.now ≡ 4 + h.parameters * 4) }
-    ensures { (s : Seen) → s.header ≡ h → Told result s (reference-frame s b.now) }
+    ensures { (s : Seen) → s.header ≡ h → Told result s (reference_frame s b.now) }
 {
     let reference = frames::reference_of(b, h);
     if !reference.fits(h.parameters) {
@@ -95,7 +95,7 @@ fn reference_frame(h: Header, b: &[u8]) -> Frame
 // Inner step: 5 of a transition.
 fn transition_frame(h: Header, b: &[u8]) -> Frame
     requires { length b.now ≡ 4 }
-    ensures { (s : Seen) → s.header ≡ h → Told result s (transition-frame s b.now) }
+    ensures { (s : Seen) → s.header ≡ h → Told result s (transition_frame s b.now) }
 {
     let t = frames::transition_of(b);
     if !h.transition_declared(t) {
@@ -108,8 +108,8 @@ fn transition_frame(h: Header, b: &[u8]) -> Frame
 
 // Inner step: 5 of a row, then 6.
 fn row_frame(h: Header, b: &[u8]) -> Frame
-    requires { Sound h × (length b.now ≡ 4 + term-count b.now * 5) }
-    ensures { (s : Seen) → s.header ≡ h → Told result s (row-frame s b.now) }
+    requires { Sound h × (length b.now ≡ 4 + term_count b.now * 5) }
+    ensures { (s : Seen) → s.header ≡ h → Told result s (row_frame s b.now) }
 {
     if !frames::row_declared(b, h) {
         return blank(3, Outcome::Refused(Refusal::Undeclared));
@@ -125,7 +125,7 @@ fn row_frame(h: Header, b: &[u8]) -> Frame
 
 // Inner step: what a frame of right length holds, the kind taken off.
 fn content(h: Header, kind: u8, b: &[u8]) -> Frame
-    requires { Sound h × (1 ≤ kind) × (kind ≤ 4) × (length b.now ≡ due-length h kind (term-count b.now)) }
+    requires { Sound h × (1 ≤ kind) × (kind ≤ 4) × (length b.now ≡ due_length h kind (term_count b.now)) }
     ensures { (s : Seen) → s.header ≡ h → Told result s (content s kind b.now) }
 {
     if kind == 1 {
@@ -147,7 +147,7 @@ fn either(a: bool, b: bool) -> bool
 }
 
 fn due_length(h: Header, kind: u8, terms: u8) -> usize
-    ensures { result ≡ due-length h kind terms }
+    ensures { result ≡ due_length h kind terms }
 {
     let parameters = h.parameters;
     if kind == 2 {
@@ -160,7 +160,7 @@ fn due_length(h: Header, kind: u8, terms: u8) -> usize
 }
 
 fn is_due(p: Progress, kind: u8) -> bool
-    ensures { result ≡ is-due p kind }
+    ensures { result ≡ is_due p kind }
 {
     let declared = p.header.transitions;
     if kind == 1 {
@@ -200,15 +200,15 @@ fn placed(p: Progress, kind: u8, count: usize, terms: u8) -> Outcome
 
 // How many bytes of a line the buffer has.
 fn held(count: usize) -> usize
-    ensures { result ≡ cond (leb count frame-limit) count frame-limit }
+    ensures { result ≡ cond (leb count frame_limit) count frame_limit }
 {
     if count <= 1280 { count } else { 1280 }
 }
 
 // Inner step: the frame of a line of so many bytes, the first 1,280 of which stand in the buffer.
 pub fn frame(p: Progress, count: usize, buffer: &[u8]) -> Frame
-    requires { Sound p.header × (length buffer.now ≡ frame-limit) }
-    ensures { (s : Seen) (bs : List ℕ) → progress-of s ≡ p → length bs ≡ count → take count buffer.now ≡ take frame-limit bs → Told result s (frame s bs) }
+    requires { Sound p.header × (length buffer.now ≡ frame_limit) }
+    ensures { (s : Seen) (bs : List ℕ) → progress_of s ≡ p → length bs ≡ count → take count buffer.now ≡ take frame_limit bs → Told result s (frame s bs) }
 {
     if count == 0 {
         return blank(0, Outcome::Refused(Refusal::NoFrame));
@@ -224,7 +224,7 @@ pub fn frame(p: Progress, count: usize, buffer: &[u8]) -> Frame
 }
 
 pub fn nothing() -> Progress
-    ensures { result ≡ progress-of nothing }
+    ensures { result ≡ progress_of nothing }
 {
     Progress {
         header: no_header(),

@@ -7,7 +7,7 @@ use lib.ListN.{length, replicate, set}
 use lib.IntN.{ℤ, pos}
 use lib.Signed.{◌≤ℤ◌, ◌<ℤ◌}
 use Rattle.integers.specs.Lists.{All, In}
-use Rattle.rows.specs.Rows.{entry-count, at, plus, times}
+use Rattle.rows.specs.Rows.{entry_count, at, plus, times}
 use Rattle.removal.specs.Exact.{Meets}
 use Rattle.models.specs.Automaton.{Automaton, Edge}
 use Rattle.models.specs.Runs.{Event, event}
@@ -33,15 +33,15 @@ padded (suc n) (x ∷ s) = x ∷ padded n s
 
 -- the setting with every clock at 0
 unfoldable pub at_zero : List ℤ → List ℤ
-at_zero s = padded entry-count s
+at_zero s = padded entry_count s
 
 -- entries 9 to 14 are 1, the others 0
-abbrev pub clock-rates : List ℤ
-clock-rates = replicate 9 (pos 0) ++ replicate 6 (pos 1) ++ (pos 0 ∷ [])
+abbrev pub clock_rates : List ℤ
+clock_rates = replicate 9 (pos 0) ++ replicate 6 (pos 1) ++ (pos 0 ∷ [])
 
 -- a delay: the denominator is made k times as large (no value changes), and d is added to every clock; it is the rational d / (k · entry 0)
 unfoldable pub waited : ℤ → ℤ → List ℤ → List ℤ
-waited k d p = plus (times k p) (times d clock-rates)
+waited k d p = plus (times k p) (times d clock_rates)
 
 -- the clocks of the list set to 0
 unfoldable pub reset : List ℕ → List ℤ → List ℤ

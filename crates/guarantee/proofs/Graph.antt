@@ -18,24 +18,24 @@ use Rattle.method.specs.Method.{State, start, successor, shadow}
 pub record Standing (m : Automaton) (region : List Row) (S : State) : Type 0 where
   pub named : All (Names (8 + m.clocks)) S.rows
   pub sh : List Row
-  pub is-shadow : shadow m S.rows ≡ found sh
+  pub is_shadow : shadow m S.rows ≡ found sh
   pub within : (p : List ℤ) → Point 16 p → Meets p region → Meets p sh
 
 -- a transition from a kept state: its successor has no point that meets K, or is a kept state
 pub record Handled (m : Automaton) (K : List Row) (states : List State) (S : State) (t : Edge) : Type 0 where
   pub rows : List Row
-  pub is-successor : successor m S.rows t ≡ found rows
+  pub is_successor : successor m S.rows t ≡ found rows
   pub verdict : ((q : List ℤ) → Point 16 q → Meets q K → ¬ Meets q rows) ⊎ In (record { location = t.target; rows = rows }) states
 
 -- the start state is kept
 pub record Begun (m : Automaton) (K : List Row) (states : List State) : Type 0 where
   pub state : State
   pub location : state.location ≡ 0
-  pub is-start : start m K ≡ found state.rows
-  pub is-in : In state states
+  pub is_start : start m K ≡ found state.rows
+  pub is_in : In state states
 
 pub record Graph (m : Automaton) (K : List Row) (states : List State) (region : List Row) : Type 0 where
-  pub K-names : All (Names 8) K
+  pub K_names : All (Names 8) K
   pub begun : Begun m K states
   pub standing : (S : State) → In S states → Standing m region S
   pub closed : (S : State) → In S states → (t : Edge) → In t m.edges → t.source ≡ S.location → Handled m K states S t
@@ -46,9 +46,9 @@ pub data Path (m : Automaton) (K : List Row) (states : List State) : List Event 
   onward : {tr : List Event} {S : State} → Path m K states tr S → (t : Edge) → In t m.edges → t.source ≡ S.location →
       (S' : State) → S'.location ≡ t.target → successor m S.rows t ≡ found S'.rows → In S' states → Path m K states (tr ++ (event t ∷ [])) S'
 
-pub path-in : {m : Automaton} {K : List Row} {states : List State} {tr : List Event} {S : State} → Path m K states tr S → In S states
-path-in (begin S l e i) = i
-path-in (onward p t h s S' l e i) = i
+pub path_in : {m : Automaton} {K : List Row} {states : List State} {tr : List Event} {S : State} → Path m K states tr S → In S states
+path_in (begin S l e i) = i
+path_in (onward p t h s S' l e i) = i
 
 pub record SomePath (m : Automaton) (K : List Row) (states : List State) (tr : List Event) : Type 0 where
   pub state : State

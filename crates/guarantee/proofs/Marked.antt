@@ -2,21 +2,21 @@
 use mathlib.Core.Path.{refl}
 use Rattle.integers.specs.Gcd.{gcd}
 use Rattle.integers.specs.Lists.{every, filter, pairs}
-use Rattle.rows.specs.Rows.{with-entry, dot, divisor, divided, all_small, all-zero, limited, constant, divided-down, plus, times, entry-order, row-order}
+use Rattle.rows.specs.Rows.{with_entry, dot, divisor, divided, all_small, all_zero, limited, constant, divided_down, plus, times, entry_order, row_order}
 use Rattle.sets.specs.Outcomes.{and_then}
-use Rattle.sets.specs.Sets.{insert, joined-all, within-limit, joined, same_row, stands-in, same_rows}
-use Rattle.removal.specs.Removal.{untouched, uppers, lowers, remaining, removed, all-removed}
-use Rattle.models.specs.Automaton.{automaton, padded, rows_of, reset-entries, edges-from}
-use Rattle.models.specs.Acceptance.{accepted, header-fits, reference-fits, transition-declared, owner-declared, entry-declared, entries-declared, row-declared, terms-fit, rows-accepted, reference-meets, reference-accepted}
-use Rattle.method.specs.Method.{not-below-zero, equal-zero, sum, shifted, passed, stayed, start, successor, shadow, broken, any-negation, same-state, known, leaving, or-halt, keep-state, begun, judged-whole, refined, judged-broken, judged, advanced, explored, method}
+use Rattle.sets.specs.Sets.{insert, joined_all, within_limit, joined, same_row, stands_in, same_rows}
+use Rattle.removal.specs.Removal.{untouched, uppers, lowers, remaining, removed, all_removed}
+use Rattle.models.specs.Automaton.{automaton, padded, rows_of, reset_entries, edges_from}
+use Rattle.models.specs.Acceptance.{accepted, header_fits, reference_fits, transition_declared, owner_declared, entry_declared, entries_declared, row_declared, terms_fit, rows_accepted, reference_meets, reference_accepted}
+use Rattle.method.specs.Method.{not_below_zero, equal_zero, sum, shifted, passed, stayed, start, successor, shadow, broken, any_negation, same_state, known, leaving, or_halt, keep_state, begun, judged_whole, refined, judged_broken, judged, advanced, explored, method}
 use Rattle.frames.specs.Hex.{digit, pair, bytes_of, word, lines, digits_of, line_of, big_endian}
-use Rattle.frames.specs.Reading.{entries-of, due-length, is-due, placed, row-declared as frame-declared, entries-rise, terms-fit as frame-terms-fit, header-frame, reference-frame, transition-frame, row-frame, content, frame, line, all_lines, tables, read}
-use Rattle.frames.specs.Writing.{terms-of, term-number, row-bytes, row-lines, answer-bytes, answer-lines}
-use Rattle.method.specs.Entry.{run, run-hex}
+use Rattle.frames.specs.Reading.{entries_of, due_length, is_due, placed, row_declared as frame-declared, entries_rise, terms_fit as frame-terms-fit, header_frame, reference_frame, transition_frame, row_frame, content, frame, line, all_lines, tables, read}
+use Rattle.frames.specs.Writing.{terms_of, term_number, row_bytes, row_lines, answer_bytes, answer_lines}
+use Rattle.method.specs.Entry.{run, run_hex}
 use Rattle.guarantee.specs.Marked.{Marked}
 
 pub marked : Marked
-unfolding gcd every filter pairs with-entry dot divisor divided all_small all-zero limited constant divided-down plus times entry-order row-order and_then insert joined-all within-limit joined same_row stands-in same_rows untouched uppers lowers remaining removed all-removed automaton padded rows_of reset-entries edges-from accepted header-fits reference-fits transition-declared owner-declared entry-declared entries-declared row-declared terms-fit rows-accepted reference-meets reference-accepted not-below-zero equal-zero sum shifted passed stayed start successor shadow broken any-negation same-state known leaving or-halt keep-state begun judged-whole refined judged-broken judged advanced explored method run digit pair bytes_of word lines digits_of line_of big_endian entries-of due-length is-due placed frame-declared entries-rise frame-terms-fit header-frame reference-frame transition-frame row-frame content frame line all_lines tables read terms-of term-number row-bytes row-lines answer-bytes answer-lines run-hex
+unfolding gcd every filter pairs with_entry dot divisor divided all_small all_zero limited constant divided_down plus times entry_order row_order and_then insert joined_all within_limit joined same_row stands_in same_rows untouched uppers lowers remaining removed all_removed automaton padded rows_of reset_entries edges_from accepted header_fits reference_fits transition_declared owner_declared entry_declared entries_declared row_declared terms_fit rows_accepted reference_meets reference_accepted not_below_zero equal_zero sum shifted passed stayed start successor shadow broken any_negation same_state known leaving or_halt keep_state begun judged_whole refined judged_broken judged advanced explored method run digit pair bytes_of word lines digits_of line_of big_endian entries_of due_length is_due placed frame-declared entries_rise frame-terms-fit header_frame reference_frame transition_frame row_frame content frame line all_lines tables read terms_of term_number row_bytes row_lines answer_bytes answer_lines run_hex
 marked = record {
   m1 = refl;
   m6 = refl;
@@ -24,15 +24,15 @@ marked = record {
   m2 = refl;
   m3 = refl;
   m4 = refl;
-  m8-taken = refl;
-  m8-large = refl;
+  m8_taken = refl;
+  m8_large = refl;
   m5 = refl;
   m9 = refl;
-  m9-hex = refl;
+  m9_hex = refl;
   m10 = refl;
-  empty-input = refl;
-  budget-0 = refl;
-  budget-3 = refl;
-  budget-4 = refl;
-  over-2 = refl;
+  empty_input = refl;
+  budget_0 = refl;
+  budget_3 = refl;
+  budget_4 = refl;
+  over_2 = refl;
 }

@@ -3,15 +3,15 @@
 use Rattle.std.specs.Prelude.{◌≡◌, ◌↔◌, ◌≢◌, List, [], ℕ, ◌<◌, ◌≤◌, length, pos}
 use Rattle.integers.specs.Lists.{All}
 use Rattle.rows.specs.declared.Row.{Row}
-use Rattle.rows.specs.Rows.{set-rows, at, Small}
+use Rattle.rows.specs.Rows.{set_rows, at, Small}
 use Rattle.sets.specs.declared.Outcome.TheVariants.{Found}
 use Rattle.sets.specs.Outcomes.{found}
 use Rattle.sets.specs.Sets.{InOrder}
 use Rattle.models.specs.declared.Model.{Model}
 use Rattle.models.specs.Automaton.{Automaton, automaton}
-use Rattle.models.specs.Runs.{Fraction, NotNegative, Meets, at_zero, Event, Trace, reference-setting}
+use Rattle.models.specs.Runs.{Fraction, NotNegative, Meets, at_zero, Event, Trace, reference_setting}
 use Rattle.frames.specs.Reading.{read}
-use Rattle.method.specs.Entry.{Stores, run, run-hex}
+use Rattle.method.specs.Entry.{Stores, run, run_hex}
 
 -- a setting of an automaton: a rational that is not negative for each parameter
 pub record Setting (a : Automaton) (ps : List Fraction) : Type 0 where
@@ -24,8 +24,8 @@ Inside a region ps = Meets (at_zero a ps) region
 
 -- the reference lies in the region, and every setting in it has the same set of traces as the reference
 pub record Guarantee (a : Automaton) (region : List Row) : Type 0 where
-  pub reference-inside : Inside a region (reference-setting a)
-  pub same-traces : (ps : List Fraction) → Setting a ps → Inside a region ps → (tr : List Event) → Trace a ps tr ↔ Trace a (reference-setting a) tr
+  pub reference_inside : Inside a region (reference_setting a)
+  pub same_traces : (ps : List Fraction) → Setting a ps → Inside a region ps → (tr : List Event) → Trace a ps tr ↔ Trace a (reference_setting a) tr
 
 -- DEMAND 3: whatever model is handed in, with whatever stores and budget, whenever the answer is outcome 0
 abbrev pub Demand3 : Type 0
@@ -39,16 +39,16 @@ pub record ReadGuarantee (input : List ℕ) (region : List Row) : Type 0 where
   pub guarantee : Guarantee (automaton model) region
 
 abbrev pub Demand3Hex : Type 0
-Demand3Hex = (budget : ℕ) (input : List ℕ) (s : Stores) → (run-hex budget input s).ending.outcome ≡ Found →
-    ReadGuarantee input (run-hex budget input s).ending.region
+Demand3Hex = (budget : ℕ) (input : List ℕ) (s : Stores) → (run_hex budget input s).ending.outcome ≡ Found →
+    ReadGuarantee input (run_hex budget input s).ending.region
 
 -- ---- two things that a careful reader asks
 -- the form of the region: in set order with no row twice, at most 128 rows, entries within ±1,000,000,000, parameters only
 pub record RegionForm (region : List Row) : Type 0 where
   pub in_order : InOrder region
-  pub few : length region ≤ set-rows
+  pub few : length region ≤ set_rows
   pub small : All (λ r. Small r.entries) region
-  pub parameters-only : All (λ r. (i : ℕ) → 8 < i → at r.entries i ≡ pos 0) region
+  pub parameters_only : All (λ r. (i : ℕ) → 8 < i → at r.entries i ≡ pos 0) region
 
 abbrev pub RegionFormed : Type 0
 RegionFormed = (budget : ℕ) (m : Model) (s : Stores) → (run budget m s).ending.outcome ≡ Found → RegionForm (run budget m s).ending.region

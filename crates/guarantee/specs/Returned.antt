@@ -8,7 +8,7 @@ use Rattle.models.specs.declared.Model.{Model}
 use Rattle.models.specs.Automaton.{Automaton, automaton}
 use Rattle.frames.specs.Reading.{read}
 use Rattle.method.specs.declared.Record.{Record}
-use Rattle.method.specs.Entry.{run, run-hex}
+use Rattle.method.specs.Entry.{run, run_hex}
 use Rattle.attempts.specs.declared.Answer.{Answer}
 use Rattle.zimbralosa.specs.Entries.{lent, Ran}
 use Rattle.guarantee.specs.Promise.{Guarantee}
@@ -33,4 +33,4 @@ pub record HexReturned (input : List ℕ) (result q : List ℤ) (r : Answer) : T
 
 abbrev pub HexesReturned : Type 0
 HexesReturned = (budget : ℕ) (input : List ℕ) (first second rows result : List ℤ) (roll : List Record) (a b s q : List ℤ) (l : List Record) (r : Answer) →
-    Ran (run-hex budget input (lent first second rows result roll)) a b s q l r → r.outcome ≡ Found → HexReturned input result q r
+    Ran (run_hex budget input (lent first second rows result roll)) a b s q l r → r.outcome ≡ Found → HexReturned input result q r

@@ -13,20 +13,20 @@ use mir.Syntax.{Width, w8, w16, w32, w64, w128}
 use mir.Val.{SFits, bits, hbits, to_z, of_z}
 use mir.Facts.{to_z-of_z}
 use Rattle.integers.specs.Signs.{is_zero}
-use Rattle.integers.proofs.Tests.{or-true, or-false, same_test, zero_of}
+use Rattle.integers.proofs.Tests.{or_true, or-false, same_test, zero_of}
 
-pub mag-le : (z : ℤ) → mag z ≤ nat_abs z
-mag-le (pos n) = le_refl n
-mag-le (negsuc n) = le-suc n
+pub mag_le : (z : ℤ) → mag z ≤ nat_abs z
+mag_le (pos n) = le_refl n
+mag_le (negsuc n) = le-suc n
 
 -- a magnitude below half the width's power fits
-pub fits-abs : {w : Width} (z : ℤ) → nat_abs z < 2 ^ hbits w → SFits w z
-fits-abs z h = record { sfits = lt_of_le_of_lt (mag-le z) h }
+pub fits_abs : {w : Width} (z : ℤ) → nat_abs z < 2 ^ hbits w → SFits w z
+fits_abs z h = record { sfits = lt_of_le_of_lt (mag_le z) h }
 
-pub natAbs-neg : (z : ℤ) → nat_abs (neg_ℤ z) ≡ nat_abs z
-natAbs-neg (pos zero) = refl
-natAbs-neg (pos (suc n)) = refl
-natAbs-neg (negsuc n) = refl
+pub natAbs_neg : (z : ℤ) → nat_abs (neg_ℤ z) ≡ nat_abs z
+natAbs_neg (pos zero) = refl
+natAbs_neg (pos (suc n)) = refl
+natAbs_neg (negsuc n) = refl
 
 -- what the machine reads back: of a call's result `.ok` is the bound, of an element that was read `.given`
 pub back : (w : Width) (z : ℤ) → mag z < 2 ^ hbits w → to_z w (of_z w z) ≡ z
@@ -34,48 +34,48 @@ back w z h = to_z-of_z {w = w} {z = z} (record { sfits = h })
 
 -- what the machine reads back from `-x`
 pub neg-read : {w : Width} {z : ℤ} → SFits w z → nat_abs z < 2 ^ hbits w → to_z w (of_z w (pos 0 -ℤ to_z w (of_z w z))) ≡ neg_ℤ z
-neg-read {w} {z} f h = rw (to_z-of_z f, +ℤ_idl (neg_ℤ z)) (to_z-of_z (fits-abs (neg_ℤ z) (rw (natAbs-neg z) h)))
+neg-read {w} {z} f h = rw (to_z-of_z f, +ℤ_idl (neg_ℤ z)) (to_z-of_z (fits_abs (neg_ℤ z) (rw (natAbs_neg z) h)))
 
-pub neg-nonNeg : (z : ℤ) → lt_z z (pos 0) ≡ true → T (non_neg (neg_ℤ z))
-neg-nonNeg (pos n) t = absurd (omega (arith, ltb-true n 0 t))
-neg-nonNeg (negsuc n) t = tt
+pub neg_nonNeg : (z : ℤ) → lt_z z (pos 0) ≡ true → T (non_neg (neg_ℤ z))
+neg_nonNeg (pos n) t = absurd (omega (arith, ltb-true n 0 t))
+neg_nonNeg (negsuc n) t = tt
 
-pub nonNeg-of : (z : ℤ) → lt_z z (pos 0) ≡ false → T (non_neg z)
-nonNeg-of (pos n) t = tt
-nonNeg-of (negsuc n) t = subst T t tt
+pub nonNeg_of : (z : ℤ) → lt_z z (pos 0) ≡ false → T (non_neg z)
+nonNeg_of (pos n) t = tt
+nonNeg_of (negsuc n) t = subst T t tt
 
-natAbs-sub : (a b : ℕ) → nat_abs (sub_ℕ a b) ≤ a + b
-natAbs-sub a b = go (ltb a b) refl
+natAbs_sub : (a b : ℕ) → nat_abs (sub_ℕ a b) ≤ a + b
+natAbs_sub a b = go (ltb a b) refl
   where
     go : (t : Bool) → ltb a b ≡ t → nat_abs (cond t (negsuc (b - suc a)) (pos (a - b))) ≤ a + b
     go true e = omega (arith, ltb-true a b e)
     go false e = omega arith
 
-pub natAbs-add : (x y : ℤ) → nat_abs (x +ℤ y) ≤ nat_abs x + nat_abs y
-natAbs-add (pos a) (pos b) = le_refl _
-natAbs-add (pos a) (negsuc b) = natAbs-sub a (suc b)
-natAbs-add (negsuc a) (pos b) = omega (arith, natAbs-sub b (suc a))
-natAbs-add (negsuc a) (negsuc b) = omega arith
+pub natAbs_add : (x y : ℤ) → nat_abs (x +ℤ y) ≤ nat_abs x + nat_abs y
+natAbs_add (pos a) (pos b) = le_refl _
+natAbs_add (pos a) (negsuc b) = natAbs_sub a (suc b)
+natAbs_add (negsuc a) (pos b) = omega (arith, natAbs_sub b (suc a))
+natAbs_add (negsuc a) (negsuc b) = omega arith
 
 pub nat_abs_mul : (x y : ℤ) → nat_abs (x *ℤ y) ≡ nat_abs x * nat_abs y
 nat_abs_mul (pos a) (pos b) = refl
-nat_abs_mul (pos a) (negsuc b) = natAbs-neg (pos (a * suc b))
-nat_abs_mul (negsuc a) (pos b) = natAbs-neg (pos (suc a * b))
+nat_abs_mul (pos a) (negsuc b) = natAbs_neg (pos (a * suc b))
+nat_abs_mul (negsuc a) (pos b) = natAbs_neg (pos (suc a * b))
 nat_abs_mul (negsuc a) (negsuc b) = refl
 
-pub natAbs-quot : (x : ℤ) (g : ℕ) → nat_abs (quot_z x (pos g)) ≡ nat_abs x / g
-natAbs-quot (pos a) g = refl
-natAbs-quot (negsuc a) g = natAbs-neg (pos (suc a / g))
+pub natAbs_quot : (x : ℤ) (g : ℕ) → nat_abs (quot_z x (pos g)) ≡ nat_abs x / g
+natAbs_quot (pos a) g = refl
+natAbs_quot (negsuc a) g = natAbs_neg (pos (suc a / g))
 
 pub quot_fits : {w : Width} (x : ℤ) (g : ℕ) → nat_abs x < 2 ^ hbits w → SFits w (quot_z x (pos g))
-quot_fits x g h = fits-abs (quot_z x (pos g)) (rw natAbs-quot (lt_of_le_of_lt (div-le_self (nat_abs x) g) h))
+quot_fits x g h = fits_abs (quot_z x (pos g)) (rw natAbs_quot (lt_of_le_of_lt (div-le_self (nat_abs x) g) h))
 
 pub product_le : (B : ℕ) (x y : ℤ) → nat_abs x ≤ B → nat_abs y ≤ B → nat_abs (x *ℤ y) ≤ B * B
 product_le B x y h k = rw nat_abs_mul (mul-le-mul h k)
 
-pub combined-le : (B : ℕ) (x y a b : ℤ) → nat_abs x ≤ B → nat_abs y ≤ B → nat_abs a ≤ B → nat_abs b ≤ B → nat_abs (b *ℤ x +ℤ a *ℤ y) ≤ B * B + B * B
-combined-le B x y a b hx hy ha hb =
-    omega (arith, natAbs-add (b *ℤ x) (a *ℤ y), product_le B b x hb hx, product_le B a y ha hy)
+pub combined_le : (B : ℕ) (x y a b : ℤ) → nat_abs x ≤ B → nat_abs y ≤ B → nat_abs a ≤ B → nat_abs b ≤ B → nat_abs (b *ℤ x +ℤ a *ℤ y) ≤ B * B + B * B
+combined_le B x y a b hx hy ha hb =
+    omega (arith, natAbs_add (b *ℤ x) (a *ℤ y), product_le B b x hb hx, product_le B a y ha hy)
 
 -- a signed test `x == 0` tells of the bits
 half : (w : Width) → 2 ^ hbits w < 2 ^ bits w
@@ -105,16 +105,16 @@ zero_test w z h = same_test _ _ (λ e. bits-zero w z h (eqb-true _ _ e)) (λ e. 
 pub bits-same : (w : Width) (z x : ℤ) → mag z < 2 ^ hbits w → mag x < 2 ^ hbits w → of_z w z ≡ of_z w x → z ≡ x
 bits-same w z x h k e = sym (back w z h) ∙ ap (to_z w) e ∙ back w x k
 
-same-natAbs : (z x : ℤ) → nat_abs z ≡ nat_abs x → (z ≡ x) ⊎ (z ≡ neg_ℤ x)
-same-natAbs (pos n) (pos m) e = inl (ap pos e)
-same-natAbs (pos n) (negsuc m) e = inr (ap pos e)
-same-natAbs (negsuc n) (pos zero) e = absurd (suc-ne-zero n e)
-same-natAbs (negsuc n) (pos (suc m)) e = inr (ap negsuc (suc_inj e))
-same-natAbs (negsuc n) (negsuc m) e = inl (ap negsuc (suc_inj e))
+same_natAbs : (z x : ℤ) → nat_abs z ≡ nat_abs x → (z ≡ x) ⊎ (z ≡ neg_ℤ x)
+same_natAbs (pos n) (pos m) e = inl (ap pos e)
+same_natAbs (pos n) (negsuc m) e = inr (ap pos e)
+same_natAbs (negsuc n) (pos zero) e = absurd (suc-ne-zero n e)
+same_natAbs (negsuc n) (pos (suc m)) e = inr (ap negsuc (suc_inj e))
+same_natAbs (negsuc n) (negsuc m) e = inl (ap negsuc (suc_inj e))
 
 -- two tests, `z == x` and `z == -x`, of the magnitude
 pub either-sign : (w : Width) (z x : ℤ) → mag z < 2 ^ hbits w → nat_abs x < 2 ^ hbits w → (eqb (of_z w z) (of_z w x) || eqb (of_z w z) (of_z w (neg_ℤ x))) ≡ eqb (nat_abs z) (nat_abs x)
-either-sign w z x h k = same_test (p || q) (eqb (nat_abs z) (nat_abs x)) there back-again
+either-sign w z x h k = same_test (p || q) (eqb (nat_abs z) (nat_abs x)) there back_again
   where
     p : Bool
     p = eqb (of_z w z) (of_z w x)
@@ -125,18 +125,18 @@ either-sign w z x h k = same_test (p || q) (eqb (nat_abs z) (nat_abs x)) there b
     there : (p || q) ≡ true → eqb (nat_abs z) (nat_abs x) ≡ true
     there e =
         ⊎_elim
-        (λ f. eq-eqb _ _ (ap nat_abs (bits-same w z x h (lt_of_le_of_lt (mag-le x) k) (eqb-true _ _ f))))
-        (λ f. eq-eqb _ _ (ap nat_abs (bits-same w z (neg_ℤ x) h (lt_of_le_of_lt (mag-le (neg_ℤ x)) (rw natAbs-neg k)) (eqb-true _ _ f)) ∙ natAbs-neg x))
-        (or-true p q e)
+        (λ f. eq-eqb _ _ (ap nat_abs (bits-same w z x h (lt_of_le_of_lt (mag_le x) k) (eqb-true _ _ f))))
+        (λ f. eq-eqb _ _ (ap nat_abs (bits-same w z (neg_ℤ x) h (lt_of_le_of_lt (mag_le (neg_ℤ x)) (rw natAbs_neg k)) (eqb-true _ _ f)) ∙ natAbs_neg x))
+        (or_true p q e)
 
-    back-again : eqb (nat_abs z) (nat_abs x) ≡ true → (p || q) ≡ true
-    back-again e = go (p || q) refl
+    back_again : eqb (nat_abs z) (nat_abs x) ≡ true → (p || q) ≡ true
+    back_again e = go (p || q) refl
       where
         go : (b : Bool) → (p || q) ≡ b → b ≡ true
         go true f = refl
         go false f =
             let g = or-false p q f in
-            ⊎_elim (λ d. absurd (eqb-false _ _ g.0 (ap (of_z w) d))) (λ d. absurd (eqb-false _ _ g.1 (ap (of_z w) d))) (same-natAbs z x (eqb-true _ _ e))
+            ⊎_elim (λ d. absurd (eqb-false _ _ g.0 (ap (of_z w) d))) (λ d. absurd (eqb-false _ _ g.1 (ap (of_z w) d))) (same_natAbs z x (eqb-true _ _ e))
 
 -- -(z + 1) of a z below 0: it fits, is not negative, and is one less than z's magnitude
 pub up-mag : (z : ℤ) → lt_z z (pos 0) ≡ true → mag (suc_ℤ z) ≤ mag z
@@ -144,17 +144,17 @@ up-mag (pos n) t = absurd (omega (arith, ltb-true n 0 t))
 up-mag (negsuc zero) t = omega arith
 up-mag (negsuc (suc n)) t = omega arith
 
-pub down-mag : (z : ℤ) → lt_z z (pos 0) ≡ true → mag (neg_ℤ (suc_ℤ z)) ≤ mag z
-down-mag (pos n) t = absurd (omega (arith, ltb-true n 0 t))
-down-mag (negsuc zero) t = omega arith
-down-mag (negsuc (suc n)) t = omega arith
+pub down_mag : (z : ℤ) → lt_z z (pos 0) ≡ true → mag (neg_ℤ (suc_ℤ z)) ≤ mag z
+down_mag (pos n) t = absurd (omega (arith, ltb-true n 0 t))
+down_mag (negsuc zero) t = omega arith
+down_mag (negsuc (suc n)) t = omega arith
 
-pub down-nonNeg : (z : ℤ) → lt_z z (pos 0) ≡ true → T (non_neg (neg_ℤ (suc_ℤ z)))
-down-nonNeg (pos n) t = absurd (omega (arith, ltb-true n 0 t))
-down-nonNeg (negsuc zero) t = tt
-down-nonNeg (negsuc (suc n)) t = tt
+pub down_nonNeg : (z : ℤ) → lt_z z (pos 0) ≡ true → T (non_neg (neg_ℤ (suc_ℤ z)))
+down_nonNeg (pos n) t = absurd (omega (arith, ltb-true n 0 t))
+down_nonNeg (negsuc zero) t = tt
+down_nonNeg (negsuc (suc n)) t = tt
 
-pub down-abs : (z : ℤ) → lt_z z (pos 0) ≡ true → nat_abs (neg_ℤ (suc_ℤ z)) + 1 ≡ nat_abs z
-down-abs (pos n) t = absurd (omega (arith, ltb-true n 0 t))
-down-abs (negsuc zero) t = refl
-down-abs (negsuc (suc n)) t = omega arith
+pub down_abs : (z : ℤ) → lt_z z (pos 0) ≡ true → nat_abs (neg_ℤ (suc_ℤ z)) + 1 ≡ nat_abs z
+down_abs (pos n) t = absurd (omega (arith, ltb-true n 0 t))
+down_abs (negsuc zero) t = refl
+down_abs (negsuc (suc n)) t = omega arith

@@ -39,42 +39,42 @@ pub gcd-step : (a b : ℕ) → 0 < b → gcd b (a % b) ≡ gcd a b
 gcd-step a zero h = absurd (lt_irrefl 0 h)
 gcd-step a (suc b) h = only a (suc b) _ _ (step-up a (suc b) _ (gcd-is (suc b) (a % suc b))) (gcd-is a (suc b))
 
-euclid-le : (B k a b : ℕ) → a ≤ B → b ≤ B → euclid k a b ≤ B
-euclid-le B zero a b h l = h
-euclid-le B (suc k) a zero h l = h
-euclid-le B (suc k) a (suc b) h l = euclid-le B k (suc b) (a % suc b) l (le_trans (mod-le a (suc b)) h)
+euclid_le : (B k a b : ℕ) → a ≤ B → b ≤ B → euclid k a b ≤ B
+euclid_le B zero a b h l = h
+euclid_le B (suc k) a zero h l = h
+euclid_le B (suc k) a (suc b) h l = euclid_le B k (suc b) (a % suc b) l (le_trans (mod-le a (suc b)) h)
 
 -- it is no larger than both
-pub gcd-le : (B a b : ℕ) → a ≤ B → b ≤ B → gcd a b ≤ B
+pub gcd_le : (B a b : ℕ) → a ≤ B → b ≤ B → gcd a b ≤ B
 unfolding gcd
-gcd-le B a b h l = euclid-le B (suc b) a b h l
+gcd_le B a b h l = euclid_le B (suc b) a b h l
 
 -- ---- of multiples
-mod-scale : (c a b : ℕ) → 0 < c → 0 < b → c * a % (c * b) ≡ c * (a % b)
-mod-scale c a b h k =
+mod_scale : (c a b : ℕ) → 0 < c → 0 < b → c * a % (c * b) ≡ c * (a % b)
+mod_scale c a b h k =
     let e : c * a ≡ c * (a % b) + c * b * (a / b) = omega (arith, ap (λ (t : ℕ). c * t) (div-add-mod a b)) in
     rw e (add-mul-mod_self_left (c * (a % b)) (c * b) (a / b) ∙ mod-eq_of_lt (mul-lt-mul_of_pos_left (mod-lt a k) h))
 
-scale-is : (c : ℕ) → 0 < c → (k a b : ℕ) → b < k → Greatest (c * a) (c * b) (c * euclid k a b)
-scale-is c p zero a b h = absurd (not-suc-le-zero h)
-scale-is c p (suc k) a zero h = record { left = dvd_refl (c * a); right = rw (mul-zero c) (dvd-zero (c * a)); most = λ d q r. q }
-scale-is c p (suc k) a (suc b) h =
-    step-up (c * a) (c * suc b) _ (rw (mod-scale c a (suc b) p (zero-lt-suc b)) (scale-is c p k (suc b) (a % suc b) (less k a b h (mod-lt a (zero-lt-suc b)))))
+scale_is : (c : ℕ) → 0 < c → (k a b : ℕ) → b < k → Greatest (c * a) (c * b) (c * euclid k a b)
+scale_is c p zero a b h = absurd (not-suc-le-zero h)
+scale_is c p (suc k) a zero h = record { left = dvd_refl (c * a); right = rw (mul-zero c) (dvd-zero (c * a)); most = λ d q r. q }
+scale_is c p (suc k) a (suc b) h =
+    step-up (c * a) (c * suc b) _ (rw (mod_scale c a (suc b) p (zero-lt-suc b)) (scale_is c p k (suc b) (a % suc b) (less k a b h (mod-lt a (zero-lt-suc b)))))
 
-pub gcd-scale : (c a b : ℕ) → 0 < c → gcd (c * a) (c * b) ≡ c * gcd a b
+pub gcd_scale : (c a b : ℕ) → 0 < c → gcd (c * a) (c * b) ≡ c * gcd a b
 unfolding gcd
-gcd-scale c a b h = only (c * a) (c * b) _ _ (gcd-is (c * a) (c * b)) (scale-is c h (suc b) a b (le_refl (suc b)))
+gcd_scale c a b h = only (c * a) (c * b) _ _ (gcd-is (c * a) (c * b)) (scale_is c h (suc b) a b (le_refl (suc b)))
 
 -- ---- exact division
-rem-of-divides : (z : ℤ) (g : ℕ) → g ∣ nat_abs z → rem_z z (pos g) ≡ pos 0
-rem-of-divides (pos a) g h = ap pos (mod-eq-zero_of_dvd g h)
-rem-of-divides (negsuc a) g h = ap (λ (m : ℕ). neg_ℤ (pos m)) (mod-eq-zero_of_dvd g h)
+rem_of_divides : (z : ℤ) (g : ℕ) → g ∣ nat_abs z → rem_z z (pos g) ≡ pos 0
+rem_of_divides (pos a) g h = ap pos (mod-eq-zero_of_dvd g h)
+rem_of_divides (negsuc a) g h = ap (λ (m : ℕ). neg_ℤ (pos m)) (mod-eq-zero_of_dvd g h)
 
-quot-rem : {d : ℤ} → IsPos d → (z : ℤ) → d *ℤ quot_z z d +ℤ rem_z z d ≡ z
-quot-rem (is_pos n) (pos a) = ap pos (div-add-mod a (suc n))
-quot-rem (is_pos n) (negsuc a) = rw (*ℤ-neg, ← neg_ℤ-+ℤ) (ap (λ (m : ℕ). neg_ℤ (pos m)) (div-add-mod (suc a) (suc n)))
+quot_rem : {d : ℤ} → IsPos d → (z : ℤ) → d *ℤ quot_z z d +ℤ rem_z z d ≡ z
+quot_rem (is_pos n) (pos a) = ap pos (div-add-mod a (suc n))
+quot_rem (is_pos n) (negsuc a) = rw (*ℤ-neg, ← neg_ℤ-+ℤ) (ap (λ (m : ℕ). neg_ℤ (pos m)) (div-add-mod (suc a) (suc n)))
 
 -- a divisor above zero, times the quotient, is the number
-pub quot-exact : {g : ℕ} → IsPos (pos g) → (z : ℤ) → g ∣ nat_abs z → pos g *ℤ quot_z z (pos g) ≡ z
-quot-exact {g} h z e =
-    sym (+ℤ_idr _) ∙ ap (λ (t : ℤ). pos g *ℤ quot_z z (pos g) +ℤ t) (sym (rem-of-divides z g e)) ∙ quot-rem h z
+pub quot_exact : {g : ℕ} → IsPos (pos g) → (z : ℤ) → g ∣ nat_abs z → pos g *ℤ quot_z z (pos g) ≡ z
+quot_exact {g} h z e =
+    sym (+ℤ_idr _) ∙ ap (λ (t : ℤ). pos g *ℤ quot_z z (pos g) +ℤ t) (sym (rem_of_divides z g e)) ∙ quot_rem h z

@@ -8,7 +8,7 @@ use native.Mathlib.Omega.{arith}
 use lib.Dec.{T}
 use lib.ListN.{length}
 use Rattle.integers.specs.Lists.{All, nil, cons, In, here, there, every, filter, pairs}
-use Rattle.integers.proofs.Tests.{and_left, and_right, and-mixed}
+use Rattle.integers.proofs.Tests.{and_left, and_right, and_mixed}
 
 module _ {A : Type 0} where
   pub all_head : {P : A → Type 0} {x : A} {l : List A} → All P (x ∷ l) → P x
@@ -49,22 +49,22 @@ module _ {A : Type 0} where
       (λ a. cons (c.0 a).0 (ih.0 (c.0 a).1), λ a. c.1 (all_head a, ih.1 (all_tail a)))
 
 module _ {A B : Type 0} where
-  pub all-mapped : {P : B → Type 0} (f : A → B) (l : List A) → All P (map f l) ↔ All (λ x. P (f x)) l
-  all-mapped f [] = (λ a. nil, λ a. nil)
-  all-mapped f (x ∷ l) = let ih = all-mapped f l in (λ a. cons (all_head a) (ih.0 (all_tail a)), λ a. cons (all_head a) (ih.1 (all_tail a)))
+  pub all_mapped : {P : B → Type 0} (f : A → B) (l : List A) → All P (map f l) ↔ All (λ x. P (f x)) l
+  all_mapped f [] = (λ a. nil, λ a. nil)
+  all_mapped f (x ∷ l) = let ih = all_mapped f l in (λ a. cons (all_head a) (ih.0 (all_tail a)), λ a. cons (all_head a) (ih.1 (all_tail a)))
 
-  pub all-flip : {P : A → B → Type 0} (l : List A) (m : List B) → All (λ x. All (λ y. P x y) m) l → All (λ y. All (λ x. P x y) l) m
-  all-flip l [] a = nil
-  all-flip l (y ∷ m) a = cons (all_map (λ x h. all_head h) a) (all-flip l m (all_map (λ x h. all_tail h) a))
+  pub all_flip : {P : A → B → Type 0} (l : List A) (m : List B) → All (λ x. All (λ y. P x y) m) l → All (λ y. All (λ x. P x y) l) m
+  all_flip l [] a = nil
+  all_flip l (y ∷ m) a = cons (all_map (λ x h. all_head h) a) (all_flip l m (all_map (λ x h. all_tail h) a))
 
 module _ {A B C : Type 0} where
-  pub all-pairs : {P : C → Type 0} (f : A → B → C) (l : List A) (m : List B) → All P (pairs f l m) ↔ All (λ x. All (λ y. P (f x y)) m) l
+  pub all_pairs : {P : C → Type 0} (f : A → B → C) (l : List A) (m : List B) → All P (pairs f l m) ↔ All (λ x. All (λ y. P (f x y)) m) l
   unfolding pairs
-  all-pairs f [] m = (λ a. nil, λ a. nil)
-  all-pairs f (x ∷ l) m =
-      let ih = all-pairs f l m in
+  all_pairs f [] m = (λ a. nil, λ a. nil)
+  all_pairs f (x ∷ l) m =
+      let ih = all_pairs f l m in
       let c = all_append (map (f x) m) (pairs f l m) in
-      let d = all-mapped (f x) m in
+      let d = all_mapped (f x) m in
       (λ a. cons (d.0 (c.0 a).0) (ih.0 (c.0 a).1), λ a. c.1 (d.1 (all_head a), ih.1 (all_tail a)))
 
 module _ {A : Type 0} where
@@ -79,16 +79,16 @@ module _ {A : Type 0} where
   all_in (cons h t) (there i) = all_in t i
 
   -- one element more behind the others
-  pub every-last : (f : A → Bool) (l : List A) (x : A) → every f (l ++ x ∷ []) ≡ (every f l && f x)
+  pub every_last : (f : A → Bool) (l : List A) (x : A) → every f (l ++ x ∷ []) ≡ (every f l && f x)
   unfolding every
-  every-last f [] x = and-true (f x)
-  every-last f (y ∷ l) x = ap (λ (b : Bool). f y && b) (every-last f l x) ∙ sym (and_assoc (f y) (every f l) (f x))
+  every_last f [] x = and-true (f x)
+  every_last f (y ∷ l) x = ap (λ (b : Bool). f y && b) (every_last f l x) ∙ sym (and_assoc (f y) (every f l) (f x))
 
   -- two tests in one
   pub every-both : (f g : A → Bool) (l : List A) → every (λ x. f x && g x) l ≡ (every f l && every g l)
   unfolding every
   every-both f g [] = refl
-  every-both f g (x ∷ l) = ap (λ (b : Bool). (f x && g x) && b) (every-both f g l) ∙ and-mixed (f x) (g x) (every f l) (every g l)
+  every-both f g (x ∷ l) = ap (λ (b : Bool). (f x && g x) && b) (every-both f g l) ∙ and_mixed (f x) (g x) (every f l) (every g l)
 
   -- the elements of two lists that pass a test
   pub filter-append : (f : A → Bool) (l m : List A) → filter f (l ++ m) ≡ filter f l ++ filter f m

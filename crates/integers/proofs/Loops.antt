@@ -11,7 +11,7 @@ use native.Mathlib.Numerals.{add-one}
 use lib.ListN.{length, get_or, set, drop, length-set, length-map, get_or-map, drop_of_length-le}
 use lib.Seq.{get_or-set_same, get_or-set_other, ext_get_or, drop-cons}
 use Rattle.integers.specs.Lists.{every}
-use Rattle.integers.proofs.Tests.{and-all, not-or}
+use Rattle.integers.proofs.Tests.{and_all, not_or}
 
 module _ {A : Type 0} where
   pub front : (ℕ → A) → ℕ → List A → List A
@@ -61,21 +61,21 @@ front-map g d l o h =
     front-all (g d) (λ k. g (get_or l k d)) (length l) o (map g l) h (length-map l g) (λ i k. sym (get_or-map g l i d))
 
 -- a loop that goes through l by its index: what is left of l, a turn shorter, and at the end
-pub drop-turn : {A : Type 0} (l : List A) (i : ℕ) (d : A) → i < length l → drop i l ≡ get_or l i d ∷ drop (i + 1) l
-drop-turn l i d h = rw (add-one, drop-cons l i d)
+pub drop_turn : {A : Type 0} (l : List A) (i : ℕ) (d : A) → i < length l → drop i l ≡ get_or l i d ∷ drop (i + 1) l
+drop_turn l i d h = rw (add-one, drop-cons l i d)
 
 pub drop-done : {A : Type 0} (l : List A) (i : ℕ) → length l ≤ i → drop i l ≡ []
 drop-done l i h = drop_of_length-le l h
 
 -- a loop that tests each element in turn and stops at the first that fails
 module _ {A : Type 0} (f : A → Bool) (l : List A) (i : ℕ) (d : A) where
-  pub every-stops : i < length l → f (get_or l i d) ≡ false → false ≡ every f (drop i l)
+  pub every_stops : i < length l → f (get_or l i d) ≡ false → false ≡ every f (drop i l)
   unfolding every
-  every-stops h e = rw (drop-turn l i d h, e)
+  every_stops h e = rw (drop_turn l i d h, e)
 
-  pub every-turn : i < length l → f (get_or l i d) ≡ true → every f (drop (i + 1) l) ≡ every f (drop i l)
+  pub every_turn : i < length l → f (get_or l i d) ≡ true → every f (drop (i + 1) l) ≡ every f (drop i l)
   unfolding every
-  every-turn h e = rw (drop-turn l i d h, e)
+  every_turn h e = rw (drop_turn l i d h, e)
 
   pub every-done : length l ≤ i → true ≡ every f (drop i l)
   unfolding every
@@ -83,9 +83,9 @@ module _ {A : Type 0} (f : A → Bool) (l : List A) (i : ℕ) (d : A) where
 
 -- a loop that tests every element and sets a flag where one fails
 module _ {A : Type 0} (f : A → Bool) (l : List A) (i : ℕ) (d : A) (failed : Bool) where
-  pub flag-turn : (t : Bool) → i < length l → f (get_or l i d) ≡ not t → (not (failed || t) && every f (drop (i + 1) l)) ≡ (not failed && every f (drop i l))
+  pub flag_turn : (t : Bool) → i < length l → f (get_or l i d) ≡ not t → (not (failed || t) && every f (drop (i + 1) l)) ≡ (not failed && every f (drop i l))
   unfolding every
-  flag-turn t h e = rw (drop-turn l i d h, e, not-or failed t) (and_assoc (not failed) (not t) (every f (drop (i + 1) l)))
+  flag_turn t h e = rw (drop_turn l i d h, e, not_or failed t) (and_assoc (not failed) (not t) (every f (drop (i + 1) l)))
 
   pub flag-done : length l ≤ i → not failed ≡ (not failed && every f (drop i l))
-  flag-done h = and-all (not failed) _ (sym (every-done f l i d h))
+  flag-done h = and_all (not failed) _ (sym (every-done f l i d h))

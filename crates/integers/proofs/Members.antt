@@ -5,12 +5,12 @@ use mathlib.Core.List.{List, [], ◌∷◌, ◌++◌}
 use Rattle.integers.specs.Lists.{In, here, there}
 
 module _ {A : Type 0} where
-  pub in-cons : {x y : A} {l : List A} → In x (y ∷ l) → (x ≡ y) ⊎ In x l
-  in-cons (here e) = inl e
-  in-cons (there i) = inr i
+  pub in_cons : {x y : A} {l : List A} → In x (y ∷ l) → (x ≡ y) ⊎ In x l
+  in_cons (here e) = inl e
+  in_cons (there i) = inr i
 
-  pub in-none : {G : Type 0} {x : A} (l : List A) → l ≡ [] → In x l → G
-  in-none {G} {x} l e i = absurd (rw e at (some i))
+  pub in_none : {G : Type 0} {x : A} (l : List A) → l ≡ [] → In x l → G
+  in_none {G} {x} l e i = absurd (rw e at (some i))
     where
       Some : List A → Type 0
       Some [] = ⊥
@@ -21,7 +21,7 @@ module _ {A : Type 0} where
       some (there j) = tt
 
   pub in_one : {x y : A} → In x (y ∷ []) → x ≡ y
-  in_one i = ⊎_elim (λ e. e) (λ j. in-none [] refl j) (in-cons i)
+  in_one i = ⊎_elim (λ e. e) (λ j. in_none [] refl j) (in_cons i)
 
   pub in_left : {x : A} {l : List A} (k : List A) → In x l → In x (l ++ k)
   in_left k (here e) = here e
@@ -31,6 +31,6 @@ module _ {A : Type 0} where
   in_right [] i = i
   in_right (y ∷ l) i = there (in_right l i)
 
-  pub in-append : {x : A} (l k : List A) → In x (l ++ k) → In x l ⊎ In x k
-  in-append [] k i = inr i
-  in-append (y ∷ l) k i = ⊎_elim (λ e. inl (here e)) (λ j. ⊎_elim (λ a. inl (there a)) (λ b. inr b) (in-append l k j)) (in-cons i)
+  pub in_append : {x : A} (l k : List A) → In x (l ++ k) → In x l ⊎ In x k
+  in_append [] k i = inr i
+  in_append (y ∷ l) k i = ⊎_elim (λ e. inl (here e)) (λ j. ⊎_elim (λ a. inl (there a)) (λ b. inr b) (in_append l k j)) (in_cons i)

@@ -36,27 +36,27 @@ pub and_none : (a b : Bool) → b ≡ false → false ≡ (a && b)
 and_none true b e = sym e
 and_none false b e = refl
 
-pub and-all : (a b : Bool) → b ≡ true → a ≡ (a && b)
-and-all true b e = sym e
-and-all false b e = refl
+pub and_all : (a b : Bool) → b ≡ true → a ≡ (a && b)
+and_all true b e = sym e
+and_all false b e = refl
 
-pub and-mixed : (a b c d : Bool) → ((a && b) && (c && d)) ≡ ((a && c) && (b && d))
-and-mixed true true c d = refl
-and-mixed true false true d = refl
-and-mixed true false false d = refl
-and-mixed false b c d = refl
+pub and_mixed : (a b c d : Bool) → ((a && b) && (c && d)) ≡ ((a && c) && (b && d))
+and_mixed true true c d = refl
+and_mixed true false true d = refl
+and_mixed true false false d = refl
+and_mixed false b c d = refl
 
-pub or-true : (a b : Bool) → (a || b) ≡ true → (a ≡ true) ⊎ (b ≡ true)
-or-true true b e = inl refl
-or-true false b e = inr e
+pub or_true : (a b : Bool) → (a || b) ≡ true → (a ≡ true) ⊎ (b ≡ true)
+or_true true b e = inl refl
+or_true false b e = inr e
 
 pub or-false : (a b : Bool) → (a || b) ≡ false → (a ≡ false) × (b ≡ false)
 or-false true b e = not-both (sym e)
 or-false false b e = (refl, e)
 
-pub not-or : (a b : Bool) → not (a || b) ≡ (not a && not b)
-not-or true b = refl
-not-or false b = refl
+pub not_or : (a b : Bool) → not (a || b) ≡ (not a && not b)
+not_or true b = refl
+not_or false b = refl
 
 -- two tests that come true together are the same
 pub same_test : (a b : Bool) → (a ≡ true → b ≡ true) → (b ≡ true → a ≡ true) → a ≡ b
@@ -95,15 +95,15 @@ le_z_not_lt_z (negsuc m) (pos n) = refl
 le_z_not_lt_z (negsuc m) (negsuc n) = le_not_lt n m
 
 -- the sign by the test of order
-pub above-lt : (z : ℤ) → isAbove z ≡ lt_z (pos 0) z
-above-lt (pos zero) = refl
-above-lt (pos (suc n)) = sym (lt-ltb 0 (suc n) (zero-lt-suc n))
-above-lt (negsuc n) = refl
+pub above_lt : (z : ℤ) → isAbove z ≡ lt_z (pos 0) z
+above_lt (pos zero) = refl
+above_lt (pos (suc n)) = sym (lt-ltb 0 (suc n) (zero-lt-suc n))
+above_lt (negsuc n) = refl
 
-pub below-lt : (z : ℤ) → isBelow z ≡ lt_z z (pos 0)
-below-lt (pos n) = sym (le-ltb n 0 zero-le)
-below-lt (negsuc n) = refl
+pub below_lt : (z : ℤ) → isBelow z ≡ lt_z z (pos 0)
+below_lt (pos n) = sym (le-ltb n 0 zero-le)
+below_lt (negsuc n) = refl
 
 -- two numbers are the same where their difference is 0
-pub from-difference : (x y : ℤ) → x -ℤ y ≡ pos 0 → x ≡ y
-from-difference x y e = sym (-ℤ-+ℤ_cancel x y) ∙ ap (λ (t : ℤ). t +ℤ y) e ∙ +ℤ_idl y
+pub from_difference : (x y : ℤ) → x -ℤ y ≡ pos 0 → x ≡ y
+from_difference x y e = sym (-ℤ-+ℤ_cancel x y) ∙ ap (λ (t : ℤ). t +ℤ y) e ∙ +ℤ_idl y

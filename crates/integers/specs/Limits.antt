@@ -2,9 +2,9 @@
 use Rattle.std.specs.Prelude.{ℕ}
 
 -- of an entry of a row, above and below zero
-abbrev pub entry-limit : ℕ
-entry-limit = 1000000000
+abbrev pub entry_limit : ℕ
+entry_limit = 1000000000
 
 -- of a number that a model gives: a denominator, a numerator, a coefficient
-abbrev pub given-limit : ℕ
-given-limit = 1000000
+abbrev pub given_limit : ℕ
+given_limit = 1000000

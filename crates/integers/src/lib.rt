@@ -3,7 +3,7 @@
 ghost use Rattle.std.specs.Prelude.{◌≡◌, ℕ, ◌+◌, ◌*◌, ◌≤◌, ◌<◌, ◌^◌, ℤ, pos, neg_ℤ, nat_abs, ◌+ℤ◌, ◌*ℤ◌};
 ghost use Rattle.std.specs.Int.Signed.{quot_z};
 ghost use Rattle.integers.specs.Gcd.{gcd};
-ghost use Rattle.integers.specs.Limits.{entry-limit};
+ghost use Rattle.integers.specs.Limits.{entry_limit};
 ghost use Rattle.integers.specs.Signs.{sign};
 
 pub fn wide(x: i32) -> i64
@@ -14,7 +14,7 @@ pub fn wide(x: i32) -> i64
 
 // Inner step: only what is within the entry limit is narrowed.
 pub fn narrow(x: i64) -> i32
-    requires { nat_abs x ≤ entry-limit }
+    requires { nat_abs x ≤ entry_limit }
     ensures { result ≡ x }
 {
     x as i32
@@ -52,7 +52,7 @@ pub fn gcd_of(a: u64, b: u64) -> u64
     x
 }
 
-// Inner step: the quotient towards zero; exact where the divisor divides the number (proofs/Euclid, quot-exact). Most entries are 0, and a division takes long.
+// Inner step: the quotient towards zero; exact where the divisor divides the number (proofs/Euclid, quot_exact). Most entries are 0, and a division takes long.
 pub fn quotient(x: i64, d: u64) -> i64
     requires { (nat_abs x < 2 ^ 63) × (0 < d) × (d < 2 ^ 63) }
     ensures { result ≡ quot_z x (pos d) }
@@ -65,7 +65,7 @@ pub fn quotient(x: i64, d: u64) -> i64
 
 // Inner step: b times x plus a times y, at most 2 · 10^18 for entries within the limit.
 pub fn combined(x: i64, y: i64, a: i64, b: i64) -> i64
-    requires { (nat_abs x ≤ entry-limit) × (nat_abs y ≤ entry-limit) × (nat_abs a ≤ entry-limit) × (nat_abs b ≤ entry-limit) }
+    requires { (nat_abs x ≤ entry_limit) × (nat_abs y ≤ entry_limit) × (nat_abs a ≤ entry_limit) × (nat_abs b ≤ entry_limit) }
     ensures { result ≡ b *ℤ x +ℤ a *ℤ y }
 {
     b * x + a * y

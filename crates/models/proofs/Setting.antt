@@ -13,7 +13,7 @@ use Rattle.integers.proofs.Lists.{all_map, all_filter}
 use Rattle.integers.proofs.Loops.{front, front-all}
 use Rattle.rows.specs.declared.Row.{Row}
 use Rattle.rows.specs.Rows.{at, dot, under, holds_at, Within}
-use Rattle.models.specs.Automaton.{bit, reset-entries, padded}
+use Rattle.models.specs.Automaton.{bit, reset_entries, padded}
 
 pub length_from : (a n : ℕ) → length (from a n) ≡ n
 length_from a zero = refl
@@ -36,17 +36,17 @@ from-within a (suc n) =
     later : (c : ℕ) → suc a ≤ c → c < suc a + n → (a ≤ c) × (c < a + suc n)
     later c h k = (omega arith, omega arith)
 
-pub in-from : (a n i : ℕ) → a ≤ i → i < a + n → In i (from a n)
-in-from a zero i h k = absurd (omega arith)
-in-from a (suc n) i h k = go (ℕ_discrete i a) (λ q. in-from (suc a) n i q (omega arith))
+pub in_from : (a n i : ℕ) → a ≤ i → i < a + n → In i (from a n)
+in_from a zero i h k = absurd (omega arith)
+in_from a (suc n) i h k = go (ℕ_discrete i a) (λ q. in_from (suc a) n i q (omega arith))
   where
     go : Dec (i ≡ a) → (suc a ≤ i → In i (from (suc a) n)) → In i (a ∷ from (suc a) n)
     go (yes e) f = here e
     go (no g) f = there (f (omega arith))
 
 -- only clocks are reset, and only those that there are
-pub resets-within : (clocks resets : ℕ) → All (λ c. (8 < c) × (c ≤ 8 + clocks)) (reset-entries clocks resets)
-unfolding reset-entries
+pub resets-within : (clocks resets : ℕ) → All (λ c. (8 < c) × (c ≤ 8 + clocks)) (reset_entries clocks resets)
+unfolding reset_entries
 resets-within clocks resets = (all_filter (λ e. bit resets (e - 9)) (from 9 clocks)).1 (all_map (λ c h t. within c h.0 h.1) (from-within 9 clocks))
   where
     within : (c : ℕ) → 9 ≤ c → c < 9 + clocks → (8 < c) × (c ≤ 8 + clocks)

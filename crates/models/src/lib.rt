@@ -1,14 +1,14 @@
 // A model's tables by value: what a tester hands in.
 ghost use Rattle.std.specs.Prelude.{◌≡◌, cond, not, ◌&&◌, ◌||◌, [], ◌∷◌, map, ◌^◌, ◌≤◌, leb, ltb, pos, nat_abs};
 ghost use Rattle.std.specs.Int.Signed.{le_z};
-ghost use Rattle.integers.specs.Limits.{given-limit};
+ghost use Rattle.integers.specs.Limits.{given_limit};
 ghost use Rattle.integers.specs.Lists.{All, every, from};
 ghost use Rattle.integers.specs.Signs.{is_zero};
-ghost use Rattle.rows.specs.Rows.{set-rows, at, holds_at, Small, Within};
+ghost use Rattle.rows.specs.Rows.{set_rows, at, holds_at, Small, Within};
 ghost use Rattle.sets.specs.declared.Outcome.{Outcome};
 ghost use Rattle.sets.specs.declared.Refusal.{Refusal};
-ghost use Rattle.models.specs.Automaton.{given-rows, given-transitions, reference-list, row_of, is-of, rows_of, setting-of};
-ghost use Rattle.models.specs.Acceptance.{unless, between, between-whole, header-fits, transition-declared, owner-declared, entry-declared, entries-declared, reference-fits, row-declared, terms-fit, rows-accepted, reference-accepted, accepted};
+ghost use Rattle.models.specs.Automaton.{given_rows, given_transitions, reference_list, row_of, is_of, rows_of, setting_of};
+ghost use Rattle.models.specs.Acceptance.{unless, between, between_whole, header_fits, transition_declared, owner_declared, entry_declared, entries_declared, reference_fits, row_declared, terms_fit, rows_accepted, reference_accepted, accepted};
 
 use rows::Row;
 use sets::{Outcome, Refusal};
@@ -60,7 +60,7 @@ pub struct Model {
 impl Header {
     // 3: 1 to 6 clocks, 1 to 8 parameters, 1 to 32 locations, 0 to 64 transitions.
     pub fn fits(self) -> bool
-        ensures { result ≡ header-fits self }
+        ensures { result ≡ header_fits self }
     {
         let sizes = both(
             between(1, self.locations, 32),
@@ -74,7 +74,7 @@ impl Header {
 
     // 5 of a transition.
     pub fn transition_declared(self, t: Transition) -> bool
-        ensures { result ≡ transition-declared self t }
+        ensures { result ≡ transition_declared self t }
     {
         let clocks = resets_declared(t.resets, self.clocks);
         both(
@@ -85,7 +85,7 @@ impl Header {
 
     // 5 of a row: its owner.
     pub fn owner_declared(self, kind: u8, owner: u8) -> bool
-        ensures { result ≡ owner-declared self kind owner }
+        ensures { result ≡ owner_declared self kind owner }
     {
         match kind {
             0 => owner == 0,
@@ -97,7 +97,7 @@ impl Header {
 
     // 5 of a row: an entry that it names.
     pub fn entry_declared(self, kind: u8, entry: usize) -> bool
-        ensures { result ≡ entry-declared self kind entry }
+        ensures { result ≡ entry_declared self kind entry }
     {
         let parameters = self.parameters;
         let clocks = self.clocks;
@@ -135,7 +135,7 @@ fn resets_declared(resets: u8, clocks: u8) -> bool
 
 // 4 of a number: at least `low`, at most 1,000,000.
 fn given_from(low: i32, n: i32) -> bool
-    ensures { result ≡ le_z low n && le_z n (pos given-limit) }
+    ensures { result ≡ le_z low n && le_z n (pos given_limit) }
 {
     both(low <= n, n <= 1_000_000)
 }
@@ -144,7 +144,7 @@ impl Reference {
     // Inner step: 4, of the denominator and the declared numerators.
     pub fn fits(self, parameters: u8) -> bool
         requires { parameters ≤ 8 }
-        ensures { result ≡ reference-fits (reference-list self parameters) }
+        ensures { result ≡ reference_fits (reference_list self parameters) }
     {
         both(
             given_from(1, self.denominator),
@@ -154,7 +154,7 @@ impl Reference {
 
     fn numerators_fit(self, parameters: u8) -> bool
         requires { parameters ≤ 8 }
-        ensures { result ≡ every (λ n. between-whole 0 n given-limit) (map (λ i. at self.numerators i) (from 0 parameters)) }
+        ensures { result ≡ every (λ n. between_whole 0 n given_limit) (map (λ i. at self.numerators i) (from 0 parameters)) }
     {
         let ns = self.numerators;
         for i in 0..parameters as usize {
@@ -168,7 +168,7 @@ impl Reference {
     // Inner step: the denominator, a declared numerator, or 0.
     fn number(self, parameters: u8, i: usize) -> i64
         requires { i ≤ 8 }
-        ensures { result ≡ at (reference-list self parameters) i }
+        ensures { result ≡ at (reference_list self parameters) i }
     {
         let ns = self.numerators;
         if i == 0 {
@@ -182,7 +182,7 @@ impl Reference {
 
     // The setting that it gives to eight parameters: those that are not declared are 0.
     pub fn setting(self, parameters: u8) -> [i64; 9]
-        ensures { result ≡ setting-of self parameters }
+        ensures { result ≡ setting_of self parameters }
     {
         let mut to = [0i64; 9];
         for i in 0..9 {
@@ -205,14 +205,14 @@ impl ModelRow {
     }
 
     pub fn is_of(self, kind: u8, owner: u8) -> bool
-        ensures { result ≡ is-of kind owner self }
+        ensures { result ≡ is_of kind owner self }
     {
         both(self.kind == kind, self.owner == owner)
     }
 
     // 5 of a row.
     pub fn declared(self, h: Header) -> bool
-        ensures { result ≡ row-declared h self }
+        ensures { result ≡ row_declared h self }
     {
         let e = self.entries;
         let named = entries_declared(h, self.kind, e);
@@ -224,7 +224,7 @@ impl ModelRow {
 
     // 5 of a row, then 6.
     pub fn outcome(self, h: Header) -> Outcome
-        ensures { result ≡ rows-accepted h (self ∷ []) Outcome.Found }
+        ensures { result ≡ rows_accepted h (self ∷ []) Outcome.Found }
     {
         let e = self.entries;
         if !self.declared(h) {
@@ -238,8 +238,8 @@ impl ModelRow {
 
     // Inner step: not a row of location 0 or of the initial constraint, as the kind says, or met by the setting.
     fn is_met(self, kind: u8, setting: [i64; 9]) -> bool
-        requires { Small self.entries × Within given-limit setting }
-        ensures { result ≡ not (is-of kind 0 self) || holds_at setting (row_of self) }
+        requires { Small self.entries × Within given_limit setting }
+        ensures { result ≡ not (is_of kind 0 self) || holds_at setting (row_of self) }
     {
         if self.is_of(kind, 0) {
             return self.row().holds(setting);
@@ -250,7 +250,7 @@ impl ModelRow {
 
 // Whether the entry is 0 or declared.
 fn is_named(h: Header, kind: u8, i: usize, z: i32) -> bool
-    ensures { result ≡ is_zero z || entry-declared h kind i }
+    ensures { result ≡ is_zero z || entry_declared h kind i }
 {
     if z == 0 {
         return true;
@@ -259,7 +259,7 @@ fn is_named(h: Header, kind: u8, i: usize, z: i32) -> bool
 }
 
 fn entries_declared(h: Header, kind: u8, e: [i32; 16]) -> bool
-    ensures { result ≡ entries-declared h kind 0 e }
+    ensures { result ≡ entries_declared h kind 0 e }
 {
     for i in 0..16 {
         if !is_named(h, kind, i, e[i]) {
@@ -281,7 +281,7 @@ fn all_zero(e: [i32; 16]) -> bool
 }
 
 fn all_given(e: [i32; 16]) -> bool
-    ensures { result ≡ every (λ z. leb (nat_abs z) given-limit) e }
+    ensures { result ≡ every (λ z. leb (nat_abs z) given_limit) e }
 {
     for i in 0..16 {
         if 1_000_000 < integers::magnitude(integers::wide(e[i])) {
@@ -293,14 +293,14 @@ fn all_given(e: [i32; 16]) -> bool
 
 // 6 of a row: its terms are its nonzero entries.
 fn terms_fit(e: [i32; 16]) -> bool
-    ensures { result ≡ terms-fit e }
+    ensures { result ≡ terms_fit e }
 {
     both(!all_zero(e), all_given(e))
 }
 
 // How many rows a table holds that counts so many.
 fn held(count: usize) -> usize
-    ensures { result ≡ cond (leb count set-rows) count set-rows }
+    ensures { result ≡ cond (leb count set_rows) count set_rows }
 {
     if count <= rows::Set::ROWS {
         count
@@ -312,7 +312,7 @@ fn held(count: usize) -> usize
 impl Model {
     // The reference as a setting of eight parameters.
     pub fn setting(self) -> [i64; 9]
-        ensures { result ≡ setting-of self.reference self.header.parameters }
+        ensures { result ≡ setting_of self.reference self.header.parameters }
     {
         let reference = self.reference;
         reference.setting(self.header.parameters)
@@ -320,7 +320,7 @@ impl Model {
 
     fn transitions_declared(self) -> bool
         requires { self.header.transitions ≤ 64 }
-        ensures { result ≡ every (transition-declared self.header) (given-transitions self) }
+        ensures { result ≡ every (transition_declared self.header) (given_transitions self) }
     {
         let h = self.header;
         for i in 0..h.transitions as usize {
@@ -334,7 +334,7 @@ impl Model {
 
     // 5 and 6 of the rows in table order, the first that applies.
     fn rows_outcome(self) -> Outcome
-        ensures { result ≡ rows-accepted self.header (given-rows self) Outcome.Found }
+        ensures { result ≡ rows_accepted self.header (given_rows self) Outcome.Found }
     {
         let h = self.header;
         let n = held(self.count);
@@ -353,7 +353,7 @@ impl Model {
 
     // Inner step: whether the setting meets the initial constraint (kind 0) or the invariant of location 0 (kind 1).
     fn meets(self, kind: u8, setting: [i64; 9]) -> bool
-        requires { All (λ r. Small r.entries) (given-rows self) × Within given-limit setting }
+        requires { All (λ r. Small r.entries) (given_rows self) × Within given_limit setting }
         ensures { result ≡ every (holds_at setting) (rows_of self kind 0) }
     {
         let n = held(self.count);
@@ -368,8 +368,8 @@ impl Model {
 
     // Inner step: what follows 2 to 6 of the rows in the table: a row too many, then 7 and 8.
     fn reference_outcome(self) -> Outcome
-        requires { All (λ r. Small r.entries) (given-rows self) × Within given-limit (reference-list self.reference self.header.parameters) × (self.header.parameters ≤ 8) }
-        ensures { result ≡ unless (leb self.count set-rows) Refusal.Misplaced (reference-accepted self) }
+        requires { All (λ r. Small r.entries) (given_rows self) × Within given_limit (reference_list self.reference self.header.parameters) × (self.header.parameters ≤ 8) }
+        ensures { result ≡ unless (leb self.count set_rows) Refusal.Misplaced (reference_accepted self) }
     {
         if rows::Set::ROWS < self.count {
             return Outcome::Refused(Refusal::Misplaced);

@@ -10,7 +10,7 @@ use lib.IntN.{ℤ}
 use Rattle.integers.specs.Lists.{All, nil}
 use Rattle.integers.proofs.Tests.{not-both}
 use Rattle.rows.specs.declared.Row.{Row}
-use Rattle.rows.specs.Rows.{entry-count, row-numbers, set-numbers, kept, divided-down}
+use Rattle.rows.specs.Rows.{entry_count, row_numbers, set_numbers, kept, divided_down}
 use Rattle.rows.proofs.Dividing.{Wide}
 use Rattle.rows.proofs.Pairing.{paired-wide}
 use Rattle.sets.specs.declared.Refusal.{Refusal}
@@ -19,104 +19,104 @@ use Rattle.sets.specs.declared.Outcome.TheVariants.{Found, Refused}
 use Rattle.sets.specs.declared.Joined.{Joined}
 use Rattle.sets.specs.Outcomes.{Result, found, refused, and_then}
 use Rattle.sets.specs.Sets.{none, joined}
-use Rattle.sets.specs.Stores.{with_rows, set-in, HoldsSet, answer-of, Touched, Left}
-use Rattle.sets.proofs.Stores.{length-numbers-of, length-rows-at, rows_back, stands-back, take-with-rows, touched_none, touched-twice, zeroed-touched}
-use Rattle.sets.proofs.Joining.{joined-settled}
-use Rattle.sets.proofs.Steps.{IsSet, Proper, set-in-store, left-touched, joined-proper}
+use Rattle.sets.specs.Stores.{with_rows, set_in, HoldsSet, answer_of, Touched, Left}
+use Rattle.sets.proofs.Stores.{length-numbers_of, length-rows_at, rows_back, stands_back, take-with_rows, touched_none, touched_twice, zeroed-touched}
+use Rattle.sets.proofs.Joining.{joined_settled}
+use Rattle.sets.proofs.Steps.{IsSet, Proper, set_in-store, left-touched, joined_proper}
 use Rattle.removal.specs.declared.Placed.{Placed}
-use Rattle.removal.specs.Removal.{remaining, removed, all-removed}
-use Rattle.removal.specs.Alone.{pick, side_after, placed, placed-as, standing_by, standing, Standing, Between, Front, Moved, store-after, tidied, Tidied}
+use Rattle.removal.specs.Removal.{remaining, removed, all_removed}
+use Rattle.removal.specs.Alone.{pick, side_after, placed, placed_as, standing_by, standing, Standing, Between, Front, Moved, store_after, tidied, Tidied}
 use Rattle.removal.proofs.Kept.{remaining-keeps}
 
 -- ---- a set of rows that are divided down, or a refusal
 abbrev pub MayStand : Result (List Row) → Type 0
-MayStand (found t) = IsSet t × All (λ r. divided-down r ≡ kept r) t
+MayStand (found t) = IsSet t × All (λ r. divided_down r ≡ kept r) t
 MayStand (refused q) = Unit {0}
 
-proper-of : (x : Result (List Row)) → MayStand x → Proper x
-proper-of (found t) g = g.0
-proper-of (refused q) g = tt
+proper_of : (x : Result (List Row)) → MayStand x → Proper x
+proper_of (found t) g = g.0
+proper_of (refused q) g = tt
 
 -- rows that join such a set
-pub more-may-stand : (rs t : List Row) → All Wide rs → MayStand (found t) → MayStand (joined rs t)
-more-may-stand rs t w h = go (joined rs t) refl (joined-proper rs t w h.0)
+pub more_may_stand : (rs t : List Row) → All Wide rs → MayStand (found t) → MayStand (joined rs t)
+more_may_stand rs t w h = go (joined rs t) refl (joined_proper rs t w h.0)
   where
     go : (x : Result (List Row)) → joined rs t ≡ x → Proper x → MayStand x
-    go (found u) e g = (g, joined-settled rs t u e h.1)
+    go (found u) e g = (g, joined_settled rs t u e h.1)
     go (refused q) e g = tt
 
-pub joined-may-stand : (rs : List Row) → All Wide rs → MayStand (joined rs [])
-joined-may-stand rs w = more-may-stand rs [] w ((none, nil, nil, zero-le), nil)
+pub joined_may_stand : (rs : List Row) → All Wide rs → MayStand (joined rs [])
+joined_may_stand rs w = more_may_stand rs [] w ((none, nil, nil, zero-le), nil)
 
-pub removed-may-stand : (v : ℕ) (s : List Row) → All Wide s → MayStand (removed v s)
+pub removed_may_stand : (v : ℕ) (s : List Row) → All Wide s → MayStand (removed v s)
 unfolding removed
-removed-may-stand v s w = joined-may-stand (remaining v s) (remaining-keeps Wide v (λ r s h k. paired-wide v entry-count r s h k) s w)
+removed_may_stand v s w = joined_may_stand (remaining v s) (remaining-keeps Wide v (λ r s h k. paired-wide v entry_count r s h k) s w)
 
 -- ---- one variable more at the end
-pub then-itself : {A : Type 0} (x : Result A) → and_then x found ≡ x
+pub then_itself : {A : Type 0} (x : Result A) → and_then x found ≡ x
 unfolding and_then
-then-itself (found t) = refl
-then-itself (refused q) = refl
+then_itself (found t) = refl
+then_itself (refused q) = refl
 
-pub none-removed : (x : Result (List Row)) → and_then x (all-removed []) ≡ x
-unfolding all-removed
-none-removed x = then-itself x
+pub none-removed : (x : Result (List Row)) → and_then x (all_removed []) ≡ x
+unfolding all_removed
+none-removed x = then_itself x
 
-pub all-removed-more : (vs : List ℕ) (v : ℕ) (x : Result (List Row)) → and_then x (all-removed (vs ++ v ∷ [])) ≡ and_then (and_then x (all-removed vs)) (removed v)
-unfolding and_then all-removed
-all-removed-more [] v (found t) = then-itself (removed v t)
-all-removed-more [] v (refused q) = refl
-all-removed-more (u ∷ vs) v x = go x (all-removed-more vs v)
+pub all_removed-more : (vs : List ℕ) (v : ℕ) (x : Result (List Row)) → and_then x (all_removed (vs ++ v ∷ [])) ≡ and_then (and_then x (all_removed vs)) (removed v)
+unfolding and_then all_removed
+all_removed-more [] v (found t) = then_itself (removed v t)
+all_removed-more [] v (refused q) = refl
+all_removed-more (u ∷ vs) v x = go x (all_removed-more vs v)
   where
-    go : (x : Result (List Row)) → ((y : Result (List Row)) → and_then y (all-removed (vs ++ v ∷ [])) ≡ and_then (and_then y (all-removed vs)) (removed v)) →
-        and_then x (all-removed (u ∷ vs ++ v ∷ [])) ≡ and_then (and_then x (all-removed (u ∷ vs))) (removed v)
+    go : (x : Result (List Row)) → ((y : Result (List Row)) → and_then y (all_removed (vs ++ v ∷ [])) ≡ and_then (and_then y (all_removed vs)) (removed v)) →
+        and_then x (all_removed (u ∷ vs ++ v ∷ [])) ≡ and_then (and_then x (all_removed (u ∷ vs))) (removed v)
     go (found t) ih = ih (removed u t)
     go (refused q) ih = refl
 
-pub side-more : (second : Bool) (vs : List ℕ) (v : ℕ) → side_after second (vs ++ v ∷ []) ≡ not (side_after second vs)
-side-more second [] v = refl
-side-more second (u ∷ vs) v = side-more (not second) vs v
+pub side_more : (second : Bool) (vs : List ℕ) (v : ℕ) → side_after second (vs ++ v ∷ []) ≡ not (side_after second vs)
+side_more second [] v = refl
+side_more second (u ∷ vs) v = side_more (not second) vs v
 
-pub all-may-stand : (vs : List ℕ) (x : Result (List Row)) → MayStand x → MayStand (and_then x (all-removed vs))
-unfolding and_then all-removed
-all-may-stand [] x g = rw (then-itself x) g
-all-may-stand (v ∷ vs) x g = go x g (all-may-stand vs)
+pub all_may_stand : (vs : List ℕ) (x : Result (List Row)) → MayStand x → MayStand (and_then x (all_removed vs))
+unfolding and_then all_removed
+all_may_stand [] x g = rw (then_itself x) g
+all_may_stand (v ∷ vs) x g = go x g (all_may_stand vs)
   where
-    go : (x : Result (List Row)) → MayStand x → ((y : Result (List Row)) → MayStand y → MayStand (and_then y (all-removed vs))) → MayStand (and_then x (all-removed (v ∷ vs)))
-    go (found t) g ih = ih (removed v t) (removed-may-stand v t g.0.2)
+    go : (x : Result (List Row)) → MayStand x → ((y : Result (List Row)) → MayStand y → MayStand (and_then y (all_removed vs))) → MayStand (and_then x (all_removed (v ∷ vs)))
+    go (found t) g ih = ih (removed v t) (removed_may_stand v t g.0.2)
     go (refused q) g ih = tt
 
 -- ---- a step that wrote one of the stores
-placed-answer : (second : Bool) (x : Result (List Row)) (c : Joined) → c ≡ answer-of x → placed-as second c ≡ placed second x
-placed-answer second (found t) c e = ap (placed-as second) e
-placed-answer second (refused q) c e = ap (placed-as second) e
+placed-answer : (second : Bool) (x : Result (List Row)) (c : Joined) → c ≡ answer_of x → placed_as second c ≡ placed second x
+placed-answer second (found t) c e = ap (placed_as second) e
+placed-answer second (refused q) c e = ap (placed_as second) e
 
 left-front : (x : Result (List Row)) (s s' : List ℤ) (c : Joined) → MayStand x → Left x s s' c → Front x s'
-left-front (found t) s s' c g h = rw h.store (take-with-rows t s g.0.2)
+left-front (found t) s s' c g h = rw h.store (take-with_rows t s g.0.2)
 left-front (refused q) s s' c g h = tt
 
 module _ (x : Result (List Row)) (a b : List ℤ) (c : Joined) (g : MayStand x) where
-  pub left-first : (a' : List ℤ) → set-numbers ≤ length a → Left x a a' c → Moved false x a b a' b (placed-as false c)
+  pub left-first : (a' : List ℤ) → set_numbers ≤ length a → Left x a a' c → Moved false x a b a' b (placed_as false c)
   left-first a' l h =
       record {
         answer = placed-answer false x c h.answer;
         front = left-front x a a' c g h;
-        first-touched = left-touched x a a' c (proper-of x g) l h;
-        second-touched = touched_none b;
+        first_touched = left-touched x a a' c (proper_of x g) l h;
+        second_touched = touched_none b;
       }
 
-  pub left-second : (b' : List ℤ) → set-numbers ≤ length b → Left x b b' c → Moved true x a b a b' (placed-as true c)
+  pub left-second : (b' : List ℤ) → set_numbers ≤ length b → Left x b b' c → Moved true x a b a b' (placed_as true c)
   left-second b' l h =
       record {
         answer = placed-answer true x c h.answer;
         front = left-front x b b' c g h;
-        first-touched = touched_none a;
-        second-touched = left-touched x b b' c (proper-of x g) l h;
+        first_touched = touched_none a;
+        second_touched = left-touched x b b' c (proper_of x g) l h;
       }
 
 -- a refusal is handed on
 pub moved-refused : (second : Bool) (q : Refusal) (a b : List ℤ) → Moved second (refused q) a b a b (placed false (refused q))
-moved-refused second q a b = record { answer = refl; front = tt; first-touched = touched_none a; second-touched = touched_none b }
+moved-refused second q a b = record { answer = refl; front = tt; first_touched = touched_none a; second_touched = touched_none b }
 
 -- ---- where nothing was done yet
 module _ (a b : List ℤ) (s : Placed) (h : Between a b s) where
@@ -127,7 +127,7 @@ module _ (a b : List ℤ) (s : Placed) (h : Between a b s) where
   between-stands = go s.outcome h.stands
     where
       go : (o : Outcome) → Standing store s o → MayStand (standing_by store s.rows o)
-      go Found d = (set-in-store d.holds, d.divided)
+      go Found d = (set_in-store d.holds, d.divided)
       go (Refused q) e = tt
 
   pub between-moved : Moved s.second (standing a b s) a b a b s
@@ -135,37 +135,37 @@ module _ (a b : List ℤ) (s : Placed) (h : Between a b s) where
     where
       go : (o : Outcome) → s.outcome ≡ o → Standing store s o → Moved s.second (standing_by store s.rows o) a b a b s
       go Found e d =
-          let n : s.rows ≡ length (set-in store s.rows) = sym (length-rows-at store 0 s.rows) in
+          let n : s.rows ≡ length (set_in store s.rows) = sym (length-rows_at store 0 s.rows) in
           record {
             answer = λ i. record { rows = n i; second = s.second; outcome = e i };
-            front = ap (λ (k : ℕ). take (k * row-numbers) store) (length-rows-at store 0 s.rows) ∙ d.holds.stands.same;
-            first-touched = touched_none a;
-            second-touched = touched_none b;
+            front = ap (λ (k : ℕ). take (k * row_numbers) store) (length-rows_at store 0 s.rows) ∙ d.holds.stands.same;
+            first_touched = touched_none a;
+            second_touched = touched_none b;
           }
-      go (Refused q) e p = record { answer = p; front = tt; first-touched = touched_none a; second-touched = touched_none b }
+      go (Refused q) e p = record { answer = p; front = tt; first_touched = touched_none a; second_touched = touched_none b }
 
 -- ---- what was left stands there for the next step
-pick-long : (second : Bool) (a b : List ℤ) → set-numbers ≤ length a → set-numbers ≤ length b → set-numbers ≤ length (pick second a b)
+pick-long : (second : Bool) (a b : List ℤ) → set_numbers ≤ length a → set_numbers ≤ length b → set_numbers ≤ length (pick second a b)
 pick-long true a b l m = m
 pick-long false a b l m = l
 
-front-holds : (t : List Row) (s : List ℤ) → IsSet t → set-numbers ≤ length s → Front (found t) s → HoldsSet s (length t)
+front-holds : (t : List Row) (s : List ℤ) → IsSet t → set_numbers ≤ length s → Front (found t) s → HoldsSet s (length t)
 front-holds t s g l e =
     let b = rows_back t s 0 g.2 e in
-    record { long = l; few = g.3; stands = stands-back t s 0 g.2 (omega (arith, g.3)) e; ordered = rw b g.0; small = rw b g.1 }
+    record { long = l; few = g.3; stands = stands_back t s 0 g.2 (omega (arith, g.3)) e; ordered = rw b g.0; small = rw b g.1 }
 
 module _ (second : Bool) (a b a' b' : List ℤ) (r : Placed) where
   pub moved-standing : (x : Result (List Row)) → MayStand x → Moved second x a b a' b' r → standing a' b' r ≡ x
   moved-standing (found t) g h = rw h.answer (ap {B = Result (List Row)} found (rows_back t (pick second a' b') 0 g.0.2 h.front))
   moved-standing (refused q) g h = rw h.answer refl
 
-  pub moved-between : (x : Result (List Row)) → MayStand x → set-numbers ≤ length a → set-numbers ≤ length b → Moved second x a b a' b' r → Between a' b' r
+  pub moved-between : (x : Result (List Row)) → MayStand x → set_numbers ≤ length a → set_numbers ≤ length b → Moved second x a b a' b' r → Between a' b' r
   moved-between x g l m h =
-      let l' : set-numbers ≤ length a' = rw h.first-touched.long l in
-      let m' : set-numbers ≤ length b' = rw h.second-touched.long m in
-      record { first-long = l'; second-long = m'; stands = rw h.answer (go x g h.front (pick-long second a' b' l' m')) }
+      let l' : set_numbers ≤ length a' = rw h.first_touched.long l in
+      let m' : set_numbers ≤ length b' = rw h.second_touched.long m in
+      record { first_long = l'; second_long = m'; stands = rw h.answer (go x g h.front (pick-long second a' b' l' m')) }
     where
-      go : (x : Result (List Row)) → MayStand x → Front x (pick second a' b') → set-numbers ≤ length (pick second a' b') →
+      go : (x : Result (List Row)) → MayStand x → Front x (pick second a' b') → set_numbers ≤ length (pick second a' b') →
           (let p = placed second x in Standing (pick p.second a' b') p p.outcome)
       go (found t) g e k = record { holds = front-holds t (pick second a' b') g.0 k e; divided = rw (rows_back t (pick second a' b') 0 g.0.2 e) g.1 }
       go (refused q) g e k = refl
@@ -181,48 +181,48 @@ module _ (side : Bool → Bool) (f : List Row → Result (List Row)) (second : B
       go (found t) h k =
           let e : r.second ≡ second = ap (λ (p : Placed). p.second) h.answer in
           let m : Moved (side second) (f t) a' b' a'' b'' r' = rw e at k in
-          record { answer = m.answer; front = m.front; first-touched = touched-twice h.first-touched m.first-touched; second-touched = touched-twice h.second-touched m.second-touched }
+          record { answer = m.answer; front = m.front; first_touched = touched_twice h.first_touched m.first_touched; second_touched = touched_twice h.second_touched m.second_touched }
       go (refused q) h k =
-          record { answer = k.answer; front = tt; first-touched = touched-twice h.first-touched k.first-touched; second-touched = touched-twice h.second-touched k.second-touched }
+          record { answer = k.answer; front = tt; first_touched = touched_twice h.first_touched k.first_touched; second_touched = touched_twice h.second_touched k.second_touched }
 
 -- ---- the stores cleared behind it
-pub tidied-store : (second here : Bool) (x : Result (List Row)) (s s' : List ℤ) → MayStand x → set-numbers ≤ length s → Touched s s' → (here ≡ true → Front x s') →
-    tidied (placed second x).outcome here (placed second x).rows s' ≡ store-after here x s
+pub tidied-store : (second here : Bool) (x : Result (List Row)) (s s' : List ℤ) → MayStand x → set_numbers ≤ length s → Touched s s' → (here ≡ true → Front x s') →
+    tidied (placed second x).outcome here (placed second x).rows s' ≡ store_after here x s
 unfolding with_rows
-tidied-store second true (found t) s s' g l e f = rw (f refl, zeroed-touched l e, length-numbers-of g.0.2)
+tidied-store second true (found t) s s' g l e f = rw (f refl, zeroed-touched l e, length-numbers_of g.0.2)
 tidied-store second false (found t) s s' g l e f = zeroed-touched l e
 tidied-store second true (refused q) s s' g l e f = zeroed-touched l e
 tidied-store second false (refused q) s s' g l e f = zeroed-touched l e
 
-module _ (second : Bool) (a b a' b' : List ℤ) (r : Placed) (l : set-numbers ≤ length a) (m : set-numbers ≤ length b) where
+module _ (second : Bool) (a b a' b' : List ℤ) (r : Placed) (l : set_numbers ≤ length a) (m : set_numbers ≤ length b) where
   -- the rows that an answer speaks of are in its store
-  pub moved-room : (x : Result (List Row)) → MayStand x → Moved second x a b a' b' r → r.rows * row-numbers ≤ length (pick r.second a' b')
+  pub moved-room : (x : Result (List Row)) → MayStand x → Moved second x a b a' b' r → r.rows * row_numbers ≤ length (pick r.second a' b')
   moved-room (found t) g h =
-      let k = pick-long second a' b' (rw h.first-touched.long l) (rw h.second-touched.long m) in
+      let k = pick-long second a' b' (rw h.first_touched.long l) (rw h.second_touched.long m) in
       rw h.answer (omega (arith, g.0.3))
   moved-room (refused q) g h = rw h.answer zero-le
 
   pub moved-tidied : (x : Result (List Row)) → MayStand x → Moved second x a b a' b' r → (a'' b'' : List ℤ) → Tidied r a' b' a'' b'' →
-      (a'' ≡ store-after (not second) x a) × (b'' ≡ store-after second x b)
+      (a'' ≡ store_after (not second) x a) × (b'' ≡ store_after second x b)
   moved-tidied x g h a'' b'' t = go x g h (rw h.answer at t.first) (rw h.answer at t.second)
     where
-      in-first : (d : Bool) (x : Result (List Row)) → Front x (pick d a' b') → not d ≡ true → Front x a'
-      in-first true x f e = not-both e
-      in-first false x f e = f
+      in_first : (d : Bool) (x : Result (List Row)) → Front x (pick d a' b') → not d ≡ true → Front x a'
+      in_first true x f e = not-both e
+      in_first false x f e = f
 
-      in-second : (d : Bool) (x : Result (List Row)) → Front x (pick d a' b') → d ≡ true → Front x b'
-      in-second true x f e = f
-      in-second false x f e = not-both e
+      in_second : (d : Bool) (x : Result (List Row)) → Front x (pick d a' b') → d ≡ true → Front x b'
+      in_second true x f e = f
+      in_second false x f e = not-both e
 
       go : (x : Result (List Row)) → MayStand x → Moved second x a b a' b' r →
           a'' ≡ tidied (placed second x).outcome (not (placed second x).second) (placed second x).rows a' →
           b'' ≡ tidied (placed second x).outcome (placed second x).second (placed second x).rows b' →
-          (a'' ≡ store-after (not second) x a) × (b'' ≡ store-after second x b)
+          (a'' ≡ store_after (not second) x a) × (b'' ≡ store_after second x b)
       go (found t) g h e f = (
-        e ∙ tidied-store second (not second) (found t) a a' g l h.first-touched (in-first second (found t) h.front),
-        f ∙ tidied-store second second (found t) b b' g m h.second-touched (in-second second (found t) h.front),
+        e ∙ tidied-store second (not second) (found t) a a' g l h.first_touched (in_first second (found t) h.front),
+        f ∙ tidied-store second second (found t) b b' g m h.second_touched (in_second second (found t) h.front),
       )
       go (refused q) g h e f = (
-        e ∙ tidied-store second (not second) (refused q) a a' g l h.first-touched (λ k. tt),
-        f ∙ tidied-store second second (refused q) b b' g m h.second-touched (λ k. tt),
+        e ∙ tidied-store second (not second) (refused q) a a' g l h.first_touched (λ k. tt),
+        f ∙ tidied-store second second (refused q) b b' g m h.second_touched (λ k. tt),
       )

@@ -7,53 +7,53 @@ use mathlib.Core.List.{List, [], ◌∷◌}
 use lib.IntN.{ℤ, pos, ◌+ℤ◌, ◌-ℤ◌, ◌*ℤ◌, neg_ℤ}
 use lib.Signed.{◌≤ℤ◌, ◌<ℤ◌, ≤ℤ_refl}
 use Rattle.integers.specs.Lists.{All, nil, cons}
-use Rattle.integers.proofs.Lists.{all_head, all_tail, all_map, all-zip, all-flip}
-use Rattle.integers.proofs.Whole.{ring, zed, add-fact, up_neg, dn-neg, IsPos, is_pos, pos-*, le-scale, le-unscale, total}
+use Rattle.integers.proofs.Lists.{all_head, all_tail, all_map, all-zip, all_flip}
+use Rattle.integers.proofs.Whole.{ring, zed, add-fact, up_neg, dn-neg, IsPos, is_pos, pos-*, le_scale, le_unscale, total}
 use Rattle.rows.specs.Rows.{Under}
-use Rattle.rows.proofs.Sign.{under-scale, under-add, under-strict, under-or-left, under-or-right}
+use Rattle.rows.proofs.Sign.{under_scale, under-add, under_strict, under_or_left, under_or_right}
 
 -- ---- on numbers
-le-sub : (x y : ℤ) → x ≤ℤ y → (x -ℤ y) ≤ℤ pos 0
-le-sub x y h = omega (zed, add-fact x (neg_ℤ y), up_neg y, dn-neg y)
+le_sub : (x y : ℤ) → x ≤ℤ y → (x -ℤ y) ≤ℤ pos 0
+le_sub x y h = omega (zed, add-fact x (neg_ℤ y), up_neg y, dn-neg y)
 
 neg-below : {x : ℤ} → IsPos x → neg_ℤ x <ℤ pos 0
 neg-below (is_pos n) = omega zed
 
-lt-le : (x y : ℤ) → x <ℤ y → x ≤ℤ y
-lt-le x y h = omega zed
+lt_le : (x y : ℤ) → x <ℤ y → x ≤ℤ y
+lt_le x y h = omega zed
 
 -- p / P ≤ q / Q ≤ r / R
-cross-trans : {P Q R : ℤ} → IsPos P → IsPos Q → IsPos R → (p q r : ℤ) → (p *ℤ Q) ≤ℤ (q *ℤ P) → (q *ℤ R) ≤ℤ (r *ℤ Q) → (p *ℤ R) ≤ℤ (r *ℤ P)
-cross-trans {P} {Q} {R} hP hQ hR p q r h k =
-    let h₁ = le-scale hR _ _ h in
-    let k₁ = le-scale hP _ _ k in
+cross_trans : {P Q R : ℤ} → IsPos P → IsPos Q → IsPos R → (p q r : ℤ) → (p *ℤ Q) ≤ℤ (q *ℤ P) → (q *ℤ R) ≤ℤ (r *ℤ Q) → (p *ℤ R) ≤ℤ (r *ℤ P)
+cross_trans {P} {Q} {R} hP hQ hR p q r h k =
+    let h₁ = le_scale hR _ _ h in
+    let k₁ = le_scale hP _ _ k in
     let e₁ : R *ℤ (p *ℤ Q) ≡ Q *ℤ (p *ℤ R) = simp ring in
     let e₂ : R *ℤ (q *ℤ P) ≡ P *ℤ (q *ℤ R) = simp ring in
     let e₃ : P *ℤ (r *ℤ Q) ≡ Q *ℤ (r *ℤ P) = simp ring in
-    le-unscale hQ _ _ (omega zed)
+    le_unscale hQ _ _ (omega zed)
 
 -- halfway between the tightest bounds, C / B and − g / a: at a lower bound (c, b) and at an upper one
-mid-lower-eq : (a B b c C g : ℤ) → (pos 2 *ℤ (a *ℤ B)) *ℤ c -ℤ b *ℤ (C *ℤ a -ℤ g *ℤ B) ≡ a *ℤ (c *ℤ B -ℤ C *ℤ b) +ℤ B *ℤ (b *ℤ g +ℤ a *ℤ c)
-mid-lower-eq a B b c C g = simp ring
+mid_lower_eq : (a B b c C g : ℤ) → (pos 2 *ℤ (a *ℤ B)) *ℤ c -ℤ b *ℤ (C *ℤ a -ℤ g *ℤ B) ≡ a *ℤ (c *ℤ B -ℤ C *ℤ b) +ℤ B *ℤ (b *ℤ g +ℤ a *ℤ c)
+mid_lower_eq a B b c C g = simp ring
 
-mid-upper-eq : (a B b c C g : ℤ) → (pos 2 *ℤ (a *ℤ B)) *ℤ c +ℤ b *ℤ (C *ℤ a -ℤ g *ℤ B) ≡ B *ℤ (c *ℤ a -ℤ g *ℤ b) +ℤ a *ℤ (B *ℤ c +ℤ b *ℤ C)
-mid-upper-eq a B b c C g = simp ring
+mid_upper_eq : (a B b c C g : ℤ) → (pos 2 *ℤ (a *ℤ B)) *ℤ c +ℤ b *ℤ (C *ℤ a -ℤ g *ℤ B) ≡ B *ℤ (c *ℤ a -ℤ g *ℤ b) +ℤ a *ℤ (B *ℤ c +ℤ b *ℤ C)
+mid_upper_eq a B b c C g = simp ring
 
-mid-lower : {a B : ℤ} → IsPos a → IsPos B → (s : Bool) (b c C g : ℤ) → (c *ℤ B) ≤ℤ (C *ℤ b) → Under s (b *ℤ g +ℤ a *ℤ c) → Under s ((pos 2 *ℤ (a *ℤ B)) *ℤ c -ℤ b *ℤ (C *ℤ a -ℤ g *ℤ B))
-mid-lower {a} {B} ha hB s b c C g h k = rw (mid-lower-eq a B b c C g) (under-add s _ _ (under-scale ha false _ (le-sub _ _ h)) (under-scale hB s _ k))
+mid_lower : {a B : ℤ} → IsPos a → IsPos B → (s : Bool) (b c C g : ℤ) → (c *ℤ B) ≤ℤ (C *ℤ b) → Under s (b *ℤ g +ℤ a *ℤ c) → Under s ((pos 2 *ℤ (a *ℤ B)) *ℤ c -ℤ b *ℤ (C *ℤ a -ℤ g *ℤ B))
+mid_lower {a} {B} ha hB s b c C g h k = rw (mid_lower_eq a B b c C g) (under-add s _ _ (under_scale ha false _ (le_sub _ _ h)) (under_scale hB s _ k))
 
-mid-upper : {a B : ℤ} → IsPos a → IsPos B → (s : Bool) (b c C g : ℤ) → (c *ℤ a) ≤ℤ (g *ℤ b) → Under s (B *ℤ c +ℤ b *ℤ C) → Under s ((pos 2 *ℤ (a *ℤ B)) *ℤ c +ℤ b *ℤ (C *ℤ a -ℤ g *ℤ B))
-mid-upper {a} {B} ha hB s b c C g h k = rw (mid-upper-eq a B b c C g) (under-add s _ _ (under-scale hB false _ (le-sub _ _ h)) (under-scale ha s _ k))
+mid_upper : {a B : ℤ} → IsPos a → IsPos B → (s : Bool) (b c C g : ℤ) → (c *ℤ a) ≤ℤ (g *ℤ b) → Under s (B *ℤ c +ℤ b *ℤ C) → Under s ((pos 2 *ℤ (a *ℤ B)) *ℤ c +ℤ b *ℤ (C *ℤ a -ℤ g *ℤ B))
+mid_upper {a} {B} ha hB s b c C g h k = rw (mid_upper_eq a B b c C g) (under-add s _ _ (under_scale hB false _ (le_sub _ _ h)) (under_scale ha s _ k))
 
 -- one above the tightest lower bound C / B, and one below the tightest upper one
-past-lower-eq : (B b c C : ℤ) → B *ℤ c -ℤ b *ℤ (C +ℤ B) ≡ (c *ℤ B -ℤ C *ℤ b) +ℤ neg_ℤ (b *ℤ B)
-past-lower-eq B b c C = simp ring
+past_lower_eq : (B b c C : ℤ) → B *ℤ c -ℤ b *ℤ (C +ℤ B) ≡ (c *ℤ B -ℤ C *ℤ b) +ℤ neg_ℤ (b *ℤ B)
+past_lower_eq B b c C = simp ring
 
-past-upper-eq : (B b c C : ℤ) → B *ℤ c +ℤ b *ℤ neg_ℤ (C +ℤ B) ≡ (c *ℤ B -ℤ C *ℤ b) +ℤ neg_ℤ (b *ℤ B)
-past-upper-eq B b c C = simp ring
+past_upper_eq : (B b c C : ℤ) → B *ℤ c +ℤ b *ℤ neg_ℤ (C +ℤ B) ≡ (c *ℤ B -ℤ C *ℤ b) +ℤ neg_ℤ (b *ℤ B)
+past_upper_eq B b c C = simp ring
 
 past : {B b : ℤ} → IsPos B → IsPos b → (s : Bool) (c C : ℤ) → (c *ℤ B) ≤ℤ (C *ℤ b) → Under s ((c *ℤ B -ℤ C *ℤ b) +ℤ neg_ℤ (b *ℤ B))
-past hB hb s c C h = under-strict s _ (under-add true _ _ (le-sub _ _ h) (neg-below (pos-* hb hB)))
+past hB hb s c C h = under_strict s _ (under-add true _ _ (le_sub _ _ h) (neg-below (pos-* hb hB)))
 
 -- ---- on lists: the tightest of several bounds c / e, by cross-multiplied comparison
 module _ {A : Type 0} (c e : A → ℤ) where
@@ -73,7 +73,7 @@ module _ {A : Type 0} (c e : A → ℤ) where
         above = p;
         has = q;
         tight = cons (≤ℤ_refl _)
-            (all_map (λ r k. cross-trans k.0 t.above p (c r) (c t.it) (c x) k.1 (lt-le _ _ h)) (all-zip ps t.tight));
+            (all_map (λ r k. cross_trans k.0 t.above p (c r) (c t.it) (c x) k.1 (lt_le _ _ h)) (all-zip ps t.tight));
       }
 
   tightest : {Q : A → Type 0} (x : A) (l : List A) → All (λ r. IsPos (e r)) (x ∷ l) → All Q (x ∷ l) → Tightest Q (x ∷ l)
@@ -94,19 +94,19 @@ module _ {A : Type 0} (s : A → Bool) (c a b : A → ℤ) where
     pub num : ℤ
     pub den : ℤ
     pub den_pos : IsPos den
-    pub below-us : All (λ u. UpAt den num u) us
-    pub above-ls : All (λ l. DnAt den num l) ls
+    pub below_us : All (λ u. UpAt den num u) us
+    pub above_ls : All (λ l. DnAt den num l) ls
 
   pub choose : (us ls : List A) → All (λ u. IsPos (a u)) us → All (λ l. IsPos (b l)) ls → All (λ u. All (λ l. Meet u l) ls) us → Between us ls
-  choose [] [] pu pl m = record { num = pos 0; den = pos 1; den_pos = is_pos 0; below-us = nil; above-ls = nil }
+  choose [] [] pu pl m = record { num = pos 0; den = pos 1; den_pos = is_pos 0; below_us = nil; above_ls = nil }
   choose [] (l ∷ ls) pu pl m =
       let t = tightest c b l ls pl pl in
       record {
         num = c t.it +ℤ b t.it;
         den = b t.it;
         den_pos = t.above;
-        below-us = nil;
-        above-ls = all_map (λ r k. rw past-lower-eq (past t.above k.0 (s r) (c r) (c t.it) k.1)) (all-zip pl t.tight);
+        below_us = nil;
+        above_ls = all_map (λ r k. rw past_lower_eq (past t.above k.0 (s r) (c r) (c t.it) k.1)) (all-zip pl t.tight);
       }
   choose (u ∷ us) [] pu pl m =
       let t = tightest c a u us pu pu in
@@ -114,18 +114,18 @@ module _ {A : Type 0} (s : A → Bool) (c a b : A → ℤ) where
         num = neg_ℤ (c t.it +ℤ a t.it);
         den = a t.it;
         den_pos = t.above;
-        below-us = all_map (λ r k. rw past-upper-eq (past t.above k.0 (s r) (c r) (c t.it) k.1)) (all-zip pu t.tight);
-        above-ls = nil;
+        below_us = all_map (λ r k. rw past_upper_eq (past t.above k.0 (s r) (c r) (c t.it) k.1)) (all-zip pu t.tight);
+        above_ls = nil;
       }
   choose (u ∷ us) (l ∷ ls) pu pl m =
       let t = tightest c a u us pu m in
-      let f = tightest c b l ls pl (all-flip (u ∷ us) (l ∷ ls) m) in
+      let f = tightest c b l ls pl (all_flip (u ∷ us) (l ∷ ls) m) in
       record {
         num = c f.it *ℤ a t.it -ℤ c t.it *ℤ b f.it;
         den = pos 2 *ℤ (a t.it *ℤ b f.it);
         den_pos = pos-* (is_pos 1) (pos-* t.above f.above);
-        below-us = all_map (λ r k. mid-upper t.above f.above (s r) (a r) (c r) (c f.it) (c t.it) k.0
-            (under-or-left (s r) (s f.it) _ k.1)) (all-zip t.tight f.has);
-        above-ls = all_map (λ r k. mid-lower t.above f.above (s r) (b r) (c r) (c f.it) (c t.it) k.0
-            (under-or-right (s t.it) (s r) _ k.1)) (all-zip f.tight t.has);
+        below_us = all_map (λ r k. mid_upper t.above f.above (s r) (a r) (c r) (c f.it) (c t.it) k.0
+            (under_or_left (s r) (s f.it) _ k.1)) (all-zip t.tight f.has);
+        above_ls = all_map (λ r k. mid_lower t.above f.above (s r) (b r) (c r) (c f.it) (c t.it) k.0
+            (under_or_right (s t.it) (s r) _ k.1)) (all-zip f.tight t.has);
       }

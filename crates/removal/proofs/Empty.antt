@@ -13,18 +13,18 @@ use Rattle.integers.proofs.Lists.{all_head, all_tail}
 use Rattle.integers.proofs.Whole.{zed}
 use Rattle.rows.specs.declared.Row.{Row}
 use Rattle.rows.specs.Rows.{at, Holds}
-use Rattle.rows.proofs.Meaning.{holds-dec}
+use Rattle.rows.proofs.Meaning.{holds_dec}
 use Rattle.removal.specs.Exact.{Point, Meets, Values}
-use Rattle.removal.proofs.Several.{all-remaining, all-remaining-exact}
+use Rattle.removal.proofs.Several.{all_remaining, all_remaining_exact}
 
 -- the variables 1 to n
 abbrev pub variables : ℕ → List ℕ
 variables zero = []
 variables (suc n) = suc n ∷ variables n
 
-variables-ok : (n w : ℕ) → n < w → All (λ v. (v ≢ 0) × (v < w)) (variables n)
-variables-ok zero w h = nil
-variables-ok (suc n) w h = cons (λ (e : suc n ≡ 0). omega arith, h) (variables-ok n w (omega arith))
+variables_ok : (n w : ℕ) → n < w → All (λ v. (v ≢ 0) × (v < w)) (variables n)
+variables_ok zero w h = nil
+variables_ok (suc n) w h = cons (λ (e : suc n ≡ 0). omega arith, h) (variables_ok n w (omega arith))
 
 past-variables : (n i : ℕ) → All (λ v. suc i ≢ v) (variables n) → n ≤ i
 past-variables zero i a = omega arith
@@ -32,18 +32,18 @@ past-variables (suc n) i a = let h = past-variables n i (all_tail a) in let k : 
 
 pub record Some (rows : List Row) (w : ℕ) : Type 0 where
   pub point : List ℤ
-  pub is-point : Point w point
+  pub is_point : Point w point
   pub holds : Meets point rows
 
 -- values of all variables are a point
-some-values : (rows : List Row) (n : ℕ) (p : List ℤ) → Point (suc n) p → Values rows (suc n) (variables n) p ↔ Some rows (suc n)
-some-values rows n p hp = (
-  λ x. record { point = x.point; is-point = x.is-point; holds = x.holds },
+some_values : (rows : List Row) (n : ℕ) (p : List ℤ) → Point (suc n) p → Values rows (suc n) (variables n) p ↔ Some rows (suc n)
+some_values rows n p hp = (
+  λ x. record { point = x.point; is_point = x.is_point; holds = x.holds },
   λ x. record {
     point = x.point;
-    is-point = x.is-point;
+    is_point = x.is_point;
     holds = x.holds;
-    same-but = record { sizes = x.is-point.size ∙ sym hp.size; same = λ i. by x.point x.is-point i };
+    same_but = record { sizes = x.is_point.size ∙ sym hp.size; same = λ i. by x.point x.is_point i };
   },
 )
   where
@@ -55,13 +55,13 @@ some-values rows n p hp = (
         (*ℤ-zero (at p 0) ∙ sym (*ℤ-zero (at q 0)))
 
 -- the rows without variables, at whatever point
-pub some-exact : (rows : List Row) (n : ℕ) (p : List ℤ) → Point (suc n) p → Meets p (all-remaining (variables n) rows) ↔ Some rows (suc n)
-some-exact rows n p hp = Iff.trans (all-remaining-exact (variables n) rows (suc n) p hp (variables-ok n (suc n) (omega arith))) (some-values rows n p hp)
+pub some_exact : (rows : List Row) (n : ℕ) (p : List ℤ) → Point (suc n) p → Meets p (all_remaining (variables n) rows) ↔ Some rows (suc n)
+some_exact rows n p hp = Iff.trans (all_remaining_exact (variables n) rows (suc n) p hp (variables_ok n (suc n) (omega arith))) (some_values rows n p hp)
 
 -- ---- decided
-pub meets-dec : (p : List ℤ) (rows : List Row) → Dec (Meets p rows)
-meets-dec p [] = yes nil
-meets-dec p (r ∷ rows) = both (holds-dec p r) (meets-dec p rows)
+pub meets_dec : (p : List ℤ) (rows : List Row) → Dec (Meets p rows)
+meets_dec p [] = yes nil
+meets_dec p (r ∷ rows) = both (holds_dec p r) (meets_dec p rows)
   where
     both : Dec (Holds p r) → Dec (Meets p rows) → Dec (Meets p (r ∷ rows))
     both (yes h) (yes t) = yes (cons h t)
@@ -71,9 +71,9 @@ meets-dec p (r ∷ rows) = both (holds-dec p r) (meets-dec p rows)
 origin : ℕ → List ℤ
 origin n = pos 1 ∷ replicate n (pos 0)
 
-origin-point : (n : ℕ) → Point (suc n) (origin n)
+origin_point : (n : ℕ) → Point (suc n) (origin n)
 unfolding origin
-origin-point n = record { size = ap suc (length-replicate n (pos 0)); positive = omega zed }
+origin_point n = record { size = ap suc (length-replicate n (pos 0)); positive = omega zed }
 
-pub some-dec : (rows : List Row) (n : ℕ) → Dec (Some rows (suc n))
-some-dec rows n = Dec.of_iff (some-exact rows n (origin n) (origin-point n)) (meets-dec (origin n) (all-remaining (variables n) rows))
+pub some_dec : (rows : List Row) (n : ℕ) → Dec (Some rows (suc n))
+some_dec rows n = Dec.of_iff (some_exact rows n (origin n) (origin_point n)) (meets_dec (origin n) (all_remaining (variables n) rows))

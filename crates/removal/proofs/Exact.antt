@@ -11,15 +11,15 @@ use lib.ListN.{length}
 use Rattle.integers.specs.Lists.{All, nil, cons}
 use Rattle.integers.specs.Signs.{isAbove, isBelow}
 use Rattle.integers.proofs.Tests.{true_of, zero_of, one_of_three}
-use Rattle.integers.proofs.Lists.{all_map, all-zip, all_of, all_append, all_filter, all-pairs}
+use Rattle.integers.proofs.Lists.{all_map, all-zip, all_of, all_append, all_filter, all_pairs}
 use Rattle.integers.proofs.Whole.{ring, IsPos, is_pos, of-pos}
 use Rattle.rows.specs.declared.Row.{Row}
 use Rattle.rows.specs.Rows.{at, paired}
 use Rattle.rows.proofs.Meaning.{rest}
-use Rattle.rows.proofs.Pairing.{paired-blind, paired-rest, paired-holds}
+use Rattle.rows.proofs.Pairing.{paired_blind, paired-rest, paired-holds}
 use Rattle.removal.specs.Removal.{entry, untouched, uppers, lowers, remaining}
 use Rattle.removal.specs.Exact.{Point, Meets, Values}
-use Rattle.removal.proofs.Points.{same-sym, blind-holds, move, dot-move, move-point, move_same}
+use Rattle.removal.proofs.Points.{same-sym, blind_holds, move, dot-move, move-point, move_same}
 use Rattle.removal.proofs.Choose.{choose}
 
 -- ---- a list is its three parts, by the sign of the entry
@@ -68,11 +68,11 @@ unfolding remaining
 sound rows w v p hp x =
     let q = x.point in
     let a = apart v rows x.holds in
-    let back = blind-holds (v ∷ []) p q hp.positive x.is-point.positive x.same-but in
+    let back = blind_holds (v ∷ []) p q hp.positive x.is_point.positive x.same_but in
     (all_append (untouched v rows) _).1 (
       all_map (λ r h. back r (cons h.0 nil) h.1) (all-zip (untouched-zero v rows) a.zeros),
-      (all-pairs (paired v) (uppers v rows) (lowers v rows)).1
-          (all_map (λ u hu. all_map (λ l hl. back (paired v u l) (cons (paired-blind v u l) nil) (paired-holds v u l q hu.0 hl.0 hu.1 hl.1))
+      (all_pairs (paired v) (uppers v rows) (lowers v rows)).1
+          (all_map (λ u hu. all_map (λ l hl. back (paired v u l) (cons (paired_blind v u l) nil) (paired-holds v u l q hu.0 hl.0 hu.1 hl.1))
           (all-zip (lowers-below v rows) a.downs)) (all-zip (uppers-above v rows) a.ups)),
     )
 
@@ -83,45 +83,45 @@ pub record Moved (rows : List Row) (v : ℕ) (p : List ℤ) : Type 0 where
   pub den_pos : pos 0 <ℤ den
   pub holds : Meets (move v den num p) rows
 
-moved-values : (rows : List Row) (w v : ℕ) (p : List ℤ) → Point w p → v ≢ 0 → Moved rows v p → Values rows w (v ∷ []) p
-moved-values rows w v p hp nz m = record {
+moved_values : (rows : List Row) (w v : ℕ) (p : List ℤ) → Point w p → v ≢ 0 → Moved rows v p → Values rows w (v ∷ []) p
+moved_values rows w v p hp nz m = record {
   point = move v m.den m.num p;
-  is-point = move-point w v m.den m.num p hp nz m.den_pos;
-  same-but = move_same v m.den m.num p nz;
+  is_point = move-point w v m.den m.num p hp nz m.den_pos;
+  same_but = move_same v m.den m.num p nz;
   holds = m.holds;
 }
 
 -- a lower bound in the sign that `choose` takes
-lower-eq : (k c e x : ℤ) → k *ℤ c -ℤ neg_ℤ e *ℤ x ≡ k *ℤ c +ℤ e *ℤ x
-lower-eq k c e x = simp ring
+lower_eq : (k c e x : ℤ) → k *ℤ c -ℤ neg_ℤ e *ℤ x ≡ k *ℤ c +ℤ e *ℤ x
+lower_eq k c e x = simp ring
 
 complete : (rows : List Row) (w v : ℕ) (p : List ℤ) → Point w p → v ≢ 0 → v < w → Meets p (remaining v rows) → Moved rows v p
 unfolding remaining
 complete rows w v p hp nz lt h =
     let both = (all_append (untouched v rows) _).0 h in
-    let met = (all-pairs (paired v) (uppers v rows) (lowers v rows)).0 both.1 in
+    let met = (all_pairs (paired v) (uppers v rows) (lowers v rows)).0 both.1 in
     let t = choose (λ r. r.strict) (λ r. rest v r.entries p) (λ r. entry v r) (λ r. neg_ℤ (entry v r)) (uppers v rows) (lowers v rows)
     (uppers-above v rows) (lowers-below v rows)
     (all_map (λ u hu. all_map (λ l hl. rw paired-rest at hl) hu) met) in
     let q = move v t.den t.num p in
     let fits : v < length p = rw hp.size lt in
     let hq : Point w q = move-point w v t.den t.num p hp nz (of-pos t.den_pos) in
-    let forth = blind-holds (v ∷ []) q p hq.positive hp.positive (same-sym (move_same v t.den t.num p nz)) in
+    let forth = blind_holds (v ∷ []) q p hq.positive hp.positive (same-sym (move_same v t.den t.num p nz)) in
     record {
       num = t.num;
       den = t.den;
       den_pos = of-pos t.den_pos;
       holds = together v rows (record {
         zeros = all_map (λ r k. forth r (cons k.0 nil) k.1) (all-zip (untouched-zero v rows) both.0);
-        ups = all_map (λ r k. rw (dot-move v t.den t.num r.entries p fits) k) t.below-us;
-        downs = all_map (λ r k. rw (dot-move v t.den t.num r.entries p fits) (rw lower-eq at k)) t.above-ls;
+        ups = all_map (λ r k. rw (dot-move v t.den t.num r.entries p fits) k) t.below_us;
+        downs = all_map (λ r k. rw (dot-move v t.den t.num r.entries p fits) (rw lower_eq at k)) t.above_ls;
       });
     }
 
 -- THE THEOREM: the rows that remain hold at p exactly where some point that differs from p in v alone meets the old rows;
 -- and exactly where some number num / den at v does
-pub remaining-exact : (rows : List Row) (w v : ℕ) (p : List ℤ) → Point w p → v ≢ 0 → v < w → Meets p (remaining v rows) ↔ Values rows w (v ∷ []) p
-remaining-exact rows w v p hp nz lt = (λ a. moved-values rows w v p hp nz (complete rows w v p hp nz lt a), sound rows w v p hp)
+pub remaining_exact : (rows : List Row) (w v : ℕ) (p : List ℤ) → Point w p → v ≢ 0 → v < w → Meets p (remaining v rows) ↔ Values rows w (v ∷ []) p
+remaining_exact rows w v p hp nz lt = (λ a. moved_values rows w v p hp nz (complete rows w v p hp nz lt a), sound rows w v p hp)
 
 pub remaining-moved : (rows : List Row) (w v : ℕ) (p : List ℤ) → Point w p → v ≢ 0 → v < w → Meets p (remaining v rows) ↔ Moved rows v p
-remaining-moved rows w v p hp nz lt = (complete rows w v p hp nz lt, λ m. sound rows w v p hp (moved-values rows w v p hp nz m))
+remaining-moved rows w v p hp nz lt = (complete rows w v p hp nz lt, λ m. sound rows w v p hp (moved_values rows w v p hp nz m))

@@ -7,7 +7,7 @@ use lib.ListN.{length, take}
 use lib.IntN.{ℤ}
 use denote.Ref.{Bor}
 use Rattle.rows.specs.declared.Row.{Row}
-use Rattle.rows.specs.Rows.{row-numbers, set-numbers}
+use Rattle.rows.specs.Rows.{row_numbers, set_numbers}
 use Rattle.sets.specs.Outcomes.{Result, found}
 use Rattle.sets.specs.Stores.{zeroed}
 use Rattle.sets.proofs.Stores.{zeroed-touched}
@@ -33,14 +33,14 @@ module _ (second : Bool) (x : Result (List Row)) (a b a₁ b₁ a₂ b₂ : List
   pub only-answer : r₁ ≡ r₂
   only-answer = h.answer ∙ sym k.answer
 
-  pub only-front : (t : List Row) → x ≡ found t → take (length t * row-numbers) (pick second a₁ b₁) ≡ take (length t * row-numbers) (pick second a₂ b₂)
+  pub only-front : (t : List Row) → x ≡ found t → take (length t * row_numbers) (pick second a₁ b₁) ≡ take (length t * row_numbers) (pick second a₂ b₂)
   only-front t e =
       let f : Moved second (found t) a b a₁ b₁ r₁ = subst (λ (y : Result (List Row)). Moved second y a b a₁ b₁ r₁) e h in
       let g : Moved second (found t) a b a₂ b₂ r₂ = subst (λ (y : Result (List Row)). Moved second y a b a₂ b₂ r₂) e k in
       f.front ∙ sym g.front
 
-  pub only-cleared : set-numbers ≤ length a → set-numbers ≤ length b → (zeroed a₁ ≡ zeroed a₂) × (zeroed b₁ ≡ zeroed b₂)
+  pub only-cleared : set_numbers ≤ length a → set_numbers ≤ length b → (zeroed a₁ ≡ zeroed a₂) × (zeroed b₁ ≡ zeroed b₂)
   only-cleared l m = (
-    zeroed-touched l h.first-touched ∙ sym (zeroed-touched l k.first-touched),
-    zeroed-touched m h.second-touched ∙ sym (zeroed-touched m k.second-touched),
+    zeroed-touched l h.first_touched ∙ sym (zeroed-touched l k.first_touched),
+    zeroed-touched m h.second_touched ∙ sym (zeroed-touched m k.second_touched),
   )

@@ -9,30 +9,30 @@ use lib.Seq.{take-suc}
 use lib.IntN.{ℤ}
 use Rattle.integers.specs.Lists.{every}
 use Rattle.integers.proofs.Lists.{every-all}
-use Rattle.rows.specs.Rows.{entry-count}
+use Rattle.rows.specs.Rows.{entry_count}
 use Rattle.sets.specs.declared.Refusal.{Refusal}
 use Rattle.sets.specs.declared.Outcome.TheVariants.{Found, Refused}
 use Rattle.sets.specs.declared.Joined.{Joined}
 use Rattle.sets.specs.Outcomes.{refused, and_then}
-use Rattle.sets.specs.Stores.{set-in, Left}
+use Rattle.sets.specs.Stores.{set_in, Left}
 use Rattle.sets.proofs.Parts.{all-at}
 use Rattle.sets.proofs.Stores.{holds-wide}
 use Rattle.removal.specs.declared.Placed.{Placed}
-use Rattle.removal.specs.Removal.{removed, all-removed}
-use Rattle.removal.specs.Alone.{pick, side_after, placed, placed-as, standing, DividedSet, Between, Moved, is-variable}
-use Rattle.removal.proofs.AtOnce.{variable-in}
-use Rattle.removal.proofs.Between.{removed-may-stand, all-may-stand, none-removed, all-removed-more, side-more, left-first, left-second, moved-refused, between-stands, between-moved, moved-between, moved-again}
+use Rattle.removal.specs.Removal.{removed, all_removed}
+use Rattle.removal.specs.Alone.{pick, side_after, placed, placed_as, standing, DividedSet, Between, Moved, is_variable}
+use Rattle.removal.proofs.AtOnce.{variable_in}
+use Rattle.removal.proofs.Between.{removed_may_stand, all_may_stand, none-removed, all_removed-more, side_more, left-first, left-second, moved-refused, between-stands, between-moved, moved-between, moved-again}
 
 -- ---- the store that has the set
 module _ (a b : List ℤ) (s : Placed) (h : Between a b s) (e : s.outcome ≡ Found) where
   found_in : DividedSet (pick s.second a b) s.rows
   found_in = rw e at h.stands
 
-  pub in-second : s.second ≡ true → DividedSet b s.rows
-  in-second f = rw f at found_in
+  pub in_second : s.second ≡ true → DividedSet b s.rows
+  in_second f = rw f at found_in
 
-  pub in-first : s.second ≡ false → DividedSet a s.rows
-  in-first f = rw f at found_in
+  pub in_first : s.second ≡ false → DividedSet a s.rows
+  in_first f = rw f at found_in
 
 -- ---- one variable: a refusal handed on, or the set from one store to the other
 module _ (a b : List ℤ) (s : Placed) (v : ℕ) where
@@ -41,21 +41,21 @@ module _ (a b : List ℤ) (s : Placed) (v : ℕ) where
   next-refused q e = rw e (moved-refused (not s.second) q a b)
 
   module _ (h : Between a b s) (e : s.outcome ≡ Found) where
-    pub next-first : s.second ≡ true → (a' : List ℤ) (c : Joined) → Left (removed v (set-in b s.rows)) a a' c →
-        Moved (not s.second) (and_then (standing a b s) (removed v)) a b a' b (placed-as false c)
+    pub next-first : s.second ≡ true → (a' : List ℤ) (c : Joined) → Left (removed v (set_in b s.rows)) a a' c →
+        Moved (not s.second) (and_then (standing a b s) (removed v)) a b a' b (placed_as false c)
     unfolding and_then
     next-first f a' c k =
-        rw (e, f) (left-first (removed v (set-in b s.rows)) a b c (removed-may-stand v _ (holds-wide (in-second a b s h e f).holds)) a' h.first-long k)
+        rw (e, f) (left-first (removed v (set_in b s.rows)) a b c (removed_may_stand v _ (holds-wide (in_second a b s h e f).holds)) a' h.first_long k)
 
-    pub next-second : s.second ≡ false → (b' : List ℤ) (c : Joined) → Left (removed v (set-in a s.rows)) b b' c →
-        Moved (not s.second) (and_then (standing a b s) (removed v)) a b a b' (placed-as true c)
+    pub next-second : s.second ≡ false → (b' : List ℤ) (c : Joined) → Left (removed v (set_in a s.rows)) b b' c →
+        Moved (not s.second) (and_then (standing a b s) (removed v)) a b a b' (placed_as true c)
     unfolding and_then
     next-second f b' c k =
-        rw (e, f) (left-second (removed v (set-in a s.rows)) a b c (removed-may-stand v _ (holds-wide (in-first a b s h e f).holds)) b' h.second-long k)
+        rw (e, f) (left-second (removed v (set_in a s.rows)) a b c (removed_may_stand v _ (holds-wide (in_first a b s h e f).holds)) b' h.second_long k)
 
 -- ---- several: the first i of them
 abbrev pub Turned : List ℕ → List ℤ → List ℤ → Placed → List ℤ → List ℤ → Placed → Type 0
-Turned vs a b s a' b' r = Moved (side_after s.second vs) (and_then (standing a b s) (all-removed vs)) a b a' b' r
+Turned vs a b s a' b' r = Moved (side_after s.second vs) (and_then (standing a b s) (all_removed vs)) a b a' b' r
 
 module _ (vs : List ℕ) (a b : List ℤ) (s : Placed) (h : Between a b s) where
   pub turned_none : Turned (take 0 vs) a b s a b s
@@ -64,15 +64,15 @@ module _ (vs : List ℕ) (a b : List ℤ) (s : Placed) (h : Between a b s) where
   module _ (i : ℕ) (a' b' : List ℤ) (r : Placed) (k : Turned (take i vs) a b s a' b' r) where
     pub turned-between : Between a' b' r
     turned-between =
-        moved-between (side_after s.second (take i vs)) a b a' b' r _ (all-may-stand (take i vs) (standing a b s) (between-stands a b s h)) h.first-long h.second-long k
+        moved-between (side_after s.second (take i vs)) a b a' b' r _ (all_may_stand (take i vs) (standing a b s) (between-stands a b s h)) h.first_long h.second_long k
 
     pub turned_more : i < length vs → (a'' b'' : List ℤ) (r' : Placed) → Moved (not r.second) (and_then (standing a' b' r) (removed (get_or vs i 0))) a' b' a'' b'' r' →
         Turned (take (i + 1) vs) a b s a'' b'' r'
     turned_more l a'' b'' r' m =
-        let x = and_then (standing a b s) (all-removed (take i vs)) in
-        rw (add-one i, take-suc vs i 0 l, side-more s.second (take i vs) (get_or vs i 0), all-removed-more (take i vs) (get_or vs i 0) (standing a b s))
-        (moved-again not (removed (get_or vs i 0)) (side_after s.second (take i vs)) a b a' b' a'' b'' r r' x (all-may-stand (take i vs) (standing a b s) (between-stands a b s h)) k m)
+        let x = and_then (standing a b s) (all_removed (take i vs)) in
+        rw (add-one i, take-suc vs i 0 l, side_more s.second (take i vs) (get_or vs i 0), all_removed-more (take i vs) (get_or vs i 0) (standing a b s))
+        (moved-again not (removed (get_or vs i 0)) (side_after s.second (take i vs)) a b a' b' a'' b'' r r' x (all_may_stand (take i vs) (standing a b s) (between-stands a b s h)) k m)
 
 -- each is a variable
-pub variable-at : (vs : List ℕ) (i : ℕ) → every is-variable vs ≡ true → i < length vs → (0 < get_or vs i 0) × (get_or vs i 0 < entry-count)
-variable-at vs i e h = variable-in (get_or vs i 0) (all-at vs 0 (every-all is-variable vs e) i h)
+pub variable_at : (vs : List ℕ) (i : ℕ) → every is_variable vs ≡ true → i < length vs → (0 < get_or vs i 0) × (get_or vs i 0 < entry_count)
+variable_at vs i e h = variable_in (get_or vs i 0) (all-at vs 0 (every-all is_variable vs e) i h)

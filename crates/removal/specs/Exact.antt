@@ -20,6 +20,6 @@ pub record SameBut (vs : List ℕ) (p q : List ℤ) : Type 0 where
 -- some values of the variables vs, with p's values of the others, meet the rows
 pub record Values (rows : List Row) (w : ℕ) (vs : List ℕ) (p : List ℤ) : Type 0 where
   pub point : List ℤ
-  pub is-point : Point w point
-  pub same-but : SameBut vs p point
+  pub is_point : Point w point
+  pub same_but : SameBut vs p point
   pub holds : Meets point rows

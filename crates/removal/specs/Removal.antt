@@ -28,6 +28,6 @@ unfoldable pub removed : ℕ → List Row → Result (List Row)
 removed v s = joined (remaining v s) []
 
 -- several, in the order given
-unfoldable pub all-removed : List ℕ → List Row → Result (List Row)
-all-removed [] s = found s
-all-removed (v ∷ vs) s = and_then (removed v s) (λ t. all-removed vs t)
+unfoldable pub all_removed : List ℕ → List Row → Result (List Row)
+all_removed [] s = found s
+all_removed (v ∷ vs) s = and_then (removed v s) (λ t. all_removed vs t)

@@ -2,13 +2,13 @@
 ghost use Rattle.std.specs.Prelude.{◌≡◌, List, [], ℕ, ◌+◌, ◌*◌, ◌≤◌, ◌<◌, length};
 ghost use mathlib.Core.Bool.{not};
 ghost use Rattle.integers.specs.Lists.{every};
-ghost use Rattle.rows.specs.Rows.{row-numbers, set-rows, set-numbers};
+ghost use Rattle.rows.specs.Rows.{row_numbers, set_rows, set_numbers};
 ghost use Rattle.sets.specs.declared.Outcome.TheVariants.{Found};
 ghost use Rattle.sets.specs.Outcomes.{refused, and_then};
 ghost use Rattle.sets.specs.Sets.{joined};
 ghost use Rattle.sets.specs.Stores.{rows_at, Left};
-ghost use Rattle.removal.specs.Removal.{removed, all-removed};
-ghost use Rattle.removal.specs.Alone.{pick, side_after, placed, placed-as, standing, Between, Moved, flags-fit, is-variable, refused-at-once, alone, Tidied, RemovedAlone, part_end, PartIs, RemovedPart};
+ghost use Rattle.removal.specs.Removal.{removed, all_removed};
+ghost use Rattle.removal.specs.Alone.{pick, side_after, placed, placed_as, standing, Between, Moved, flags_fit, is_variable, refused_at_once, alone, Tidied, RemovedAlone, part_end, PartIs, RemovedPart};
 
 use rows::{Row, Set};
 use sets::{Joined, Outcome, Refusal};
@@ -36,7 +36,7 @@ impl Placed {
 
     // A step's answer, with the store that it wrote.
     pub fn of(c: Joined, second: bool) -> Placed
-        ensures { result ≡ placed-as second c }
+        ensures { result ≡ placed_as second c }
     {
         let o = c.outcome;
         match o {
@@ -70,8 +70,8 @@ pub fn remove_next(first: &mut [i32], second: &mut [i32], s: Placed, v: usize) -
 
 // Inner step: several variables, in the order given.
 pub fn remove_all(first: &mut [i32], second: &mut [i32], s: Placed, variables: &[u8]) -> Placed
-    requires { Between first.old second.old s × (every is-variable variables.now ≡ mathlib.Core.Bool.true) }
-    ensures { Moved (side_after s.second variables.now) (and_then (standing first.old second.old s) (all-removed variables.now)) first.old second.old first.new second.new result }
+    requires { Between first.old second.old s × (every is_variable variables.now ≡ mathlib.Core.Bool.true) }
+    ensures { Moved (side_after s.second variables.now) (and_then (standing first.old second.old s) (all_removed variables.now)) first.old second.old first.new second.new result }
 {
     let mut done = s;
     let mut i: usize = 0;
@@ -84,7 +84,7 @@ pub fn remove_all(first: &mut [i32], second: &mut [i32], s: Placed, variables: &
 
 // The given rows divided down and made a set, in their own store: the set grows no faster than the rows are read.
 fn make_set(s: &mut [i32], n: usize) -> Joined
-    requires { (n ≤ set-rows) × (set-numbers ≤ length s.old) }
+    requires { (n ≤ set_rows) × (set_numbers ≤ length s.old) }
     ensures { Left (joined (rows_at s.old 0 n) []) s.old s.new result }
 {
     let mut c = Joined::with(0);
@@ -95,8 +95,8 @@ fn make_set(s: &mut [i32], n: usize) -> Joined
 }
 
 fn flags_fit(s: &[i32], n: usize) -> bool
-    requires { (n ≤ set-rows) × (set-numbers ≤ length s.now) }
-    ensures { result ≡ flags-fit s.now n }
+    requires { (n ≤ set_rows) × (set_numbers ≤ length s.now) }
+    ensures { result ≡ flags_fit s.now n }
 {
     for i in 0..n {
         let f = s[i * Row::NUMBERS + Row::ENTRIES];
@@ -110,7 +110,7 @@ fn flags_fit(s: &[i32], n: usize) -> bool
 }
 
 fn variables_fit(variables: &[u8]) -> bool
-    ensures { result ≡ every is-variable variables.now }
+    ensures { result ≡ every is_variable variables.now }
 {
     let mut i: usize = 0;
     while i < variables.len() {
@@ -128,7 +128,7 @@ fn variables_fit(variables: &[u8]) -> bool
 
 // The refusals that change nothing, in their order.
 fn refused_at_once(first: &[i32], second: &[i32], count: usize, variables: &[u8]) -> Outcome
-    ensures { result ≡ refused-at-once count variables.now first.now second.now }
+    ensures { result ≡ refused_at_once count variables.now first.now second.now }
 {
     if first.len() < Set::NUMBERS {
         return Outcome::Refused(Refusal::ShortStore);
@@ -149,7 +149,7 @@ fn refused_at_once(first: &[i32], second: &[i32], count: usize, variables: &[u8]
 
 // The rows made a set, and the variables removed.
 fn remove_accepted(first: &mut [i32], second: &mut [i32], count: usize, variables: &[u8]) -> Placed
-    requires { refused-at-once count variables.now first.old second.old ≡ Found }
+    requires { refused_at_once count variables.now first.old second.old ≡ Found }
     ensures { Moved (side_after mathlib.Core.Bool.false variables.now) (alone count variables.now first.old) first.old second.old first.new second.new result }
 {
     let c = make_set(first, count);
@@ -158,7 +158,7 @@ fn remove_accepted(first: &mut [i32], second: &mut [i32], count: usize, variable
 
 // Zeros behind the rows that were found, and in all of the other store; in both on a refusal.
 fn tidy(first: &mut [i32], second: &mut [i32], s: Placed)
-    requires { s.rows * row-numbers ≤ length (pick s.second first.old second.old) }
+    requires { s.rows * row_numbers ≤ length (pick s.second first.old second.old) }
     ensures { Tidied s first.old second.old first.new second.new }
 {
     let o = s.outcome;

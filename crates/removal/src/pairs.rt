@@ -4,10 +4,10 @@ ghost use Rattle.std.specs.Prelude.{◌≡◌, map, ℕ, ◌*◌, ◌≤◌, ◌
 ghost use Rattle.integers.specs.Lists.{All, pairs};
 ghost use Rattle.integers.specs.Signs.{isAbove, isBelow};
 ghost use Rattle.integers.proofs.Whole.{IsPos};
-ghost use Rattle.rows.specs.Rows.{entry-count, row-numbers, set-rows, set-numbers, divided-down, paired, row_at};
-ghost use Rattle.sets.specs.Stores.{with_rows, set-in, HoldsSet, Left, next, progress, Ready, put_all};
+ghost use Rattle.rows.specs.Rows.{entry_count, row_numbers, set_rows, set_numbers, divided_down, paired, row_at};
+ghost use Rattle.sets.specs.Stores.{with_rows, set_in, HoldsSet, Left, next, progress, Ready, put_all};
 ghost use Rattle.removal.specs.Removal.{entry, untouched, removed};
-ghost use Rattle.removal.specs.Pairs.{numbers-where, row_of, rows_of, SmallAt};
+ghost use Rattle.removal.specs.Pairs.{numbers_where, row_of, rows_of, SmallAt};
 ghost use Rattle.removal.specs.Alone.{DividedSet};
 
 use rows::{Row, Set, Settled};
@@ -30,13 +30,13 @@ fn split(
     lowers: &mut [u8],
     uppers: &mut [u8],
 ) -> Parts
-    requires { HoldsSet from.now n × (v < entry-count) × (set-numbers ≤ length to.old) × (set-rows ≤ length lowers.old) × (set-rows ≤ length uppers.old) }
-    ensures untouched_value { result.untouched ≡ length (untouched v (set-in from.now n)) }
-    ensures to_after { to.new ≡ with_rows (untouched v (set-in from.now n)) to.old }
-    ensures lowers_value { result.lowers ≡ length (numbers-where isBelow v from.now n) }
-    ensures lowers_after { take result.lowers lowers.new ≡ numbers-where isBelow v from.now n }
-    ensures uppers_value { result.uppers ≡ length (numbers-where isAbove v from.now n) }
-    ensures uppers_after { take result.uppers uppers.new ≡ numbers-where isAbove v from.now n }
+    requires { HoldsSet from.now n × (v < entry_count) × (set_numbers ≤ length to.old) × (set_rows ≤ length lowers.old) × (set_rows ≤ length uppers.old) }
+    ensures untouched_value { result.untouched ≡ length (untouched v (set_in from.now n)) }
+    ensures to_after { to.new ≡ with_rows (untouched v (set_in from.now n)) to.old }
+    ensures lowers_value { result.lowers ≡ length (numbers_where isBelow v from.now n) }
+    ensures lowers_after { take result.lowers lowers.new ≡ numbers_where isBelow v from.now n }
+    ensures uppers_value { result.uppers ≡ length (numbers_where isAbove v from.now n) }
+    ensures uppers_after { take result.uppers uppers.new ≡ numbers_where isAbove v from.now n }
 {
     let mut k: usize = 0;
     let mut l: usize = 0;
@@ -65,16 +65,16 @@ fn split(
 
 // Any two multipliers: in 64 bits. Apart from the short way below, so that the compiler keeps that one in 32.
 fn general_pair(from: &[i32], p: usize, q: usize, v: usize) -> Settled
-    requires { SmallAt from.now p × SmallAt from.now q × (v < entry-count) }
-    ensures { result ≡ divided-down (paired v (row_at from.now p) (row_at from.now q)) }
+    requires { SmallAt from.now p × SmallAt from.now q × (v < entry_count) }
+    ensures { result ≡ divided_down (paired v (row_at from.now p) (row_at from.now q)) }
 {
     Row::read(from, p).paired(Row::read(from, q), v)
 }
 
 // Equal multipliers: the pair is a multiple of the plain sum.
 fn join_pair(from: &[i32], p: usize, q: usize, v: usize, to: &mut [i32], c: Joined) -> Joined
-    requires { Ready to.old c × SmallAt from.now p × SmallAt from.now q × (v < entry-count) × IsPos (entry v (row_at from.now p)) }
-    ensures { let x = divided-down (paired v (row_at from.now p) (row_at from.now q)) in Left (next x.fate x.row (progress to.old c)) to.old to.new result }
+    requires { Ready to.old c × SmallAt from.now p × SmallAt from.now q × (v < entry_count) × IsPos (entry v (row_at from.now p)) }
+    ensures { let x = divided_down (paired v (row_at from.now p) (row_at from.now q)) in Left (next x.fate x.row (progress to.old c)) to.old to.new result }
 {
     if from[p + v] + from[q + v] != 0 {
         return sets::put(to, c, general_pair(from, p, q, v));
@@ -104,7 +104,7 @@ fn join_with(
     to: &mut [i32],
     c: Joined,
 ) -> Joined
-    requires { Ready to.old c × SmallAt from.now p × IsPos (entry v (row_at from.now p)) × (v < entry-count) × (l ≤ length lowers.now) × All (λ j. SmallAt from.now (j * row-numbers)) (take l lowers.now) }
+    requires { Ready to.old c × SmallAt from.now p × IsPos (entry v (row_at from.now p)) × (v < entry_count) × (l ≤ length lowers.now) × All (λ j. SmallAt from.now (j * row_numbers)) (take l lowers.now) }
     ensures { Left (put_all (map (paired v (row_at from.now p)) (rows_of from.now (take l lowers.now))) (progress to.old c)) to.old to.new result }
 {
     let mut rows = c.rows;
@@ -141,7 +141,7 @@ fn join_pairs(
     to: &mut [i32],
     c: Joined,
 ) -> Joined
-    requires { Ready to.old c × (v < entry-count) × (l ≤ length lowers.now) × All (λ j. SmallAt from.now (j * row-numbers)) (take l lowers.now) × (u ≤ length uppers.now) × All (λ i. SmallAt from.now (i * row-numbers) × IsPos (entry v (row_of from.now i))) (take u uppers.now) }
+    requires { Ready to.old c × (v < entry_count) × (l ≤ length lowers.now) × All (λ j. SmallAt from.now (j * row_numbers)) (take l lowers.now) × (u ≤ length uppers.now) × All (λ i. SmallAt from.now (i * row_numbers) × IsPos (entry v (row_of from.now i))) (take u uppers.now) }
     ensures { Left (put_all (pairs (paired v) (rows_of from.now (take u uppers.now)) (rows_of from.now (take l lowers.now))) (progress to.old c)) to.old to.new result }
 {
     let mut d = c;
@@ -153,8 +153,8 @@ fn join_pairs(
 
 // Inner step: a set without a variable, in another store. Each pair is built once: where the set is too large for more rows, a pair may still be too large itself, so 9 comes before 10.
 pub fn without(from: &[i32], n: usize, v: usize, to: &mut [i32]) -> Joined
-    requires { DividedSet from.now n × (0 < v) × (v < entry-count) × (set-numbers ≤ length to.old) }
-    ensures { Left (removed v (set-in from.now n)) to.old to.new result }
+    requires { DividedSet from.now n × (0 < v) × (v < entry_count) × (set_numbers ≤ length to.old) }
+    ensures { Left (removed v (set_in from.now n)) to.old to.new result }
 {
     let mut lowers = [0u8; Set::ROWS];
     let mut uppers = [0u8; Set::ROWS];

@@ -11,13 +11,13 @@ use lib.ListN.{drop}
 use lib.IntN.{ℤ, pos, negsuc, neg_ℤ, nat_abs, ◌*ℤ◌, *ℤ-zero}
 use Rattle.integers.specs.Lists.{every}
 use Rattle.integers.specs.Signs.{is_zero, sign}
-use Rattle.integers.proofs.Tests.{not-both, and_left, and_right, or-true, zero_of}
+use Rattle.integers.proofs.Tests.{not-both, and_left, and_right, or_true, zero_of}
 use Rattle.integers.proofs.Whole.{IsPos, is_pos}
-use Rattle.entries.specs.Entries.{is-level}
+use Rattle.entries.specs.Entries.{is_level}
 use Rattle.rows.specs.declared.Row.{Row}
-use Rattle.rows.specs.Rows.{kept, too_large, all_small, all-zero, has-unit, limited, divided-down, times}
+use Rattle.rows.specs.Rows.{kept, too_large, all_small, all_zero, has_unit, limited, divided_down, times}
 use Rattle.rows.proofs.Again.{drop-map}
-use Rattle.rows.proofs.Adding.{some-entry, divided-down-times, unit-limited}
+use Rattle.rows.proofs.Adding.{some-entry, divided_down-times, unit-limited}
 
 -- ---- a number is its magnitude times its sign
 magnitude-sign : (z : ℤ) → pos (nat_abs z) *ℤ sign z ≡ z
@@ -36,20 +36,20 @@ sign_zero (pos (suc n)) = refl
 sign_zero (negsuc n) = refl
 
 -- ---- level entries are the magnitude times their signs
-level-entry : (x z : ℤ) → (is_zero z || eqb (nat_abs z) (nat_abs x)) ≡ true → pos (nat_abs x) *ℤ sign z ≡ z
-level-entry x z e =
+level_entry : (x z : ℤ) → (is_zero z || eqb (nat_abs z) (nat_abs x)) ≡ true → pos (nat_abs x) *ℤ sign z ≡ z
+level_entry x z e =
     ⊎_elim
     (λ f. rw (zero_of z f) (*ℤ-zero (pos (nat_abs x))))
     (λ f. ap (λ (n : ℕ). pos n *ℤ sign z) (sym (eqb-true (nat_abs z) (nat_abs x) f)) ∙ magnitude-sign z)
-    (or-true (is_zero z) (eqb (nat_abs z) (nat_abs x)) e)
+    (or_true (is_zero z) (eqb (nat_abs z) (nat_abs x)) e)
 
-level-times : (x : ℤ) (l : List ℤ) → is-level x l ≡ true → times (pos (nat_abs x)) (map sign l) ≡ l
-unfolding is-level every times
-level-times x [] e = refl
-level-times x (z ∷ l) e =
+level_times : (x : ℤ) (l : List ℤ) → is_level x l ≡ true → times (pos (nat_abs x)) (map sign l) ≡ l
+unfolding is_level every times
+level_times x [] e = refl
+level_times x (z ∷ l) e =
     let a = is_zero z || eqb (nat_abs z) (nat_abs x) in
     let b = every (λ z. is_zero z || eqb (nat_abs z) (nat_abs x)) l in
-    ap₂ {C = List ℤ} (λ y m. y ∷ m) (level-entry x z (and_left a b e)) (level-times x l (and_right a b e))
+    ap₂ {C = List ℤ} (λ y m. y ∷ m) (level_entry x z (and_left a b e)) (level_times x l (and_right a b e))
 
 -- ---- signs are small, have a variable where the entries do, and then a unit
 signs-small : (l : List ℤ) → all_small (map sign l) ≡ true
@@ -59,13 +59,13 @@ signs-small (pos zero ∷ l) = signs-small l
 signs-small (pos (suc n) ∷ l) = signs-small l
 signs-small (negsuc n ∷ l) = signs-small l
 
-signs-zero : (l : List ℤ) → all-zero (map sign l) ≡ all-zero l
-unfolding all-zero every
+signs-zero : (l : List ℤ) → all_zero (map sign l) ≡ all_zero l
+unfolding all_zero every
 signs-zero [] = refl
 signs-zero (z ∷ l) = ap₂ {C = Bool} (λ a b. a && b) (sign_zero z) (signs-zero l)
 
-signs-unit : (l : List ℤ) → all-zero l ≡ false → has-unit (map sign l) ≡ true
-unfolding all-zero every has-unit
+signs-unit : (l : List ℤ) → all_zero l ≡ false → has_unit (map sign l) ≡ true
+unfolding all_zero every has_unit
 signs-unit [] e = not-both (sym e)
 signs-unit (pos zero ∷ l) e = signs-unit l e
 signs-unit (pos (suc n) ∷ l) e = refl
@@ -75,17 +75,17 @@ signs-unit (negsuc n ∷ l) e = refl
 abbrev signs : Row → Row
 signs r = record { entries = map sign r.entries; strict = r.strict }
 
-module _ (r : Row) (some : all-zero (drop 1 r.entries) ≡ false) where
-  signs-some : all-zero (drop 1 (signs r).entries) ≡ false
-  signs-some = ap all-zero (drop-map sign r.entries) ∙ signs-zero (drop 1 r.entries) ∙ some
+module _ (r : Row) (some : all_zero (drop 1 r.entries) ≡ false) where
+  signs-some : all_zero (drop 1 (signs r).entries) ≡ false
+  signs-some = ap all_zero (drop-map sign r.entries) ∙ signs-zero (drop 1 r.entries) ∙ some
 
-  signs-down : divided-down (signs r) ≡ kept (signs r)
+  signs_down : divided_down (signs r) ≡ kept (signs r)
   unfolding limited
-  signs-down =
+  signs_down =
       unit-limited (signs r) (signs-unit r.entries (some-entry r.entries some)) signs-some
       ∙ ap (λ (b : Bool). cond b (kept (signs r)) too_large) (signs-small r.entries)
 
-  pub level-down : (x : ℤ) → is_zero x ≡ false → is-level x r.entries ≡ true → kept (signs r) ≡ divided-down r
-  level-down x n e =
-      sym (ap (λ (l : List ℤ). divided-down (record { entries = l; strict = r.strict })) (sym (level-times x r.entries e))
-      ∙ divided-down-times (magnitude-above x n) (signs r) ∙ signs-down)
+  pub level_down : (x : ℤ) → is_zero x ≡ false → is_level x r.entries ≡ true → kept (signs r) ≡ divided_down r
+  level_down x n e =
+      sym (ap (λ (l : List ℤ). divided_down (record { entries = l; strict = r.strict })) (sym (level_times x r.entries e))
+      ∙ divided_down-times (magnitude-above x n) (signs r) ∙ signs_down)

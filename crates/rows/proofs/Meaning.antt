@@ -16,9 +16,9 @@ use Rattle.integers.specs.Signs.{is_zero}
 use Rattle.integers.proofs.Tests.{and_left, and_right, zero_of}
 use Rattle.integers.proofs.Whole.{ring, zed, up_neg, dn-neg, neg-*ℤ, one-*ℤ}
 use Rattle.rows.specs.declared.Row.{Row}
-use Rattle.rows.specs.Rows.{at, dot, plus, times, with-entry, single, all-zero, Holds}
+use Rattle.rows.specs.Rows.{at, dot, plus, times, with_entry, single, all_zero, Holds}
 use Rattle.entries.proofs.Sums.{at_with}
-use Rattle.rows.proofs.Sign.{under-dec}
+use Rattle.rows.proofs.Sign.{under_dec}
 
 -- ---- it is linear, on both sides
 pub dot-nil : (l : List ℤ) → dot l [] ≡ pos 0
@@ -26,12 +26,12 @@ unfolding dot
 dot-nil [] = refl
 dot-nil (a ∷ l) = refl
 
-pub dot-comm : (l p : List ℤ) → dot l p ≡ dot p l
+pub dot_comm : (l p : List ℤ) → dot l p ≡ dot p l
 unfolding dot
-dot-comm [] [] = refl
-dot-comm [] (x ∷ p) = refl
-dot-comm (a ∷ l) [] = refl
-dot-comm (a ∷ l) (x ∷ p) = ap₂ (λ (s t : ℤ). s +ℤ t) (*ℤ_comm a x) (dot-comm l p)
+dot_comm [] [] = refl
+dot_comm [] (x ∷ p) = refl
+dot_comm (a ∷ l) [] = refl
+dot_comm (a ∷ l) (x ∷ p) = ap₂ (λ (s t : ℤ). s +ℤ t) (*ℤ_comm a x) (dot_comm l p)
 
 -- the steps of the inductions are over variables alone, since a clause that calls itself may hold no `simp` that sorts
 step-plus : (a b x r s : ℤ) → (a +ℤ b) *ℤ x +ℤ (r +ℤ s) ≡ (a *ℤ x +ℤ r) +ℤ (b *ℤ x +ℤ s)
@@ -60,22 +60,22 @@ dot-times k (a ∷ l) [] = sym (*ℤ-zero k)
 dot-times k (a ∷ l) (x ∷ p) = rw (dot-times k l p) (step-times k a x (dot l p))
 
 pub dot-point : (k : ℤ) (l p : List ℤ) → dot l (times k p) ≡ k *ℤ dot l p
-dot-point k l p = dot-comm l (times k p) ∙ dot-times k p l ∙ ap (λ (t : ℤ). k *ℤ t) (dot-comm p l)
+dot-point k l p = dot_comm l (times k p) ∙ dot-times k p l ∙ ap (λ (t : ℤ). k *ℤ t) (dot_comm p l)
 
 -- ---- two points that agree, as rationals with the denominators E and D, wherever the row looks
-step-weigh : (D E a x y r s : ℤ) → a *ℤ (D *ℤ y) ≡ a *ℤ (E *ℤ x) → D *ℤ s ≡ E *ℤ r → D *ℤ (a *ℤ y +ℤ s) ≡ E *ℤ (a *ℤ x +ℤ r)
-step-weigh D E a x y r s e f = sym (step-point D a y s) ∙ ap₂ (λ (t u : ℤ). t +ℤ u) e f ∙ step-point E a x r
+step_weigh : (D E a x y r s : ℤ) → a *ℤ (D *ℤ y) ≡ a *ℤ (E *ℤ x) → D *ℤ s ≡ E *ℤ r → D *ℤ (a *ℤ y +ℤ s) ≡ E *ℤ (a *ℤ x +ℤ r)
+step_weigh D E a x y r s e f = sym (step-point D a y s) ∙ ap₂ (λ (t u : ℤ). t +ℤ u) e f ∙ step-point E a x r
 
 both_zero : (D E : ℤ) → D *ℤ pos 0 ≡ E *ℤ pos 0
 both_zero D E = *ℤ-zero D ∙ sym (*ℤ-zero E)
 
-pub dot-weigh : (D E : ℤ) (l p q : List ℤ) → length q ≡ length p → ((i : ℕ) → at l i *ℤ (D *ℤ at q i) ≡ at l i *ℤ (E *ℤ at p i)) → D *ℤ dot l q ≡ E *ℤ dot l p
+pub dot_weigh : (D E : ℤ) (l p q : List ℤ) → length q ≡ length p → ((i : ℕ) → at l i *ℤ (D *ℤ at q i) ≡ at l i *ℤ (E *ℤ at p i)) → D *ℤ dot l q ≡ E *ℤ dot l p
 unfolding dot
-dot-weigh D E [] p q n f = both_zero D E
-dot-weigh D E (a ∷ l) [] [] n f = both_zero D E
-dot-weigh D E (a ∷ l) [] (y ∷ q) n f = absurd (omega arith)
-dot-weigh D E (a ∷ l) (x ∷ p) [] n f = absurd (omega arith)
-dot-weigh D E (a ∷ l) (x ∷ p) (y ∷ q) n f = step-weigh D E a x y (dot l p) (dot l q) (f 0) (dot-weigh D E l p q (omega arith) (λ i. f (suc i)))
+dot_weigh D E [] p q n f = both_zero D E
+dot_weigh D E (a ∷ l) [] [] n f = both_zero D E
+dot_weigh D E (a ∷ l) [] (y ∷ q) n f = absurd (omega arith)
+dot_weigh D E (a ∷ l) (x ∷ p) [] n f = absurd (omega arith)
+dot_weigh D E (a ∷ l) (x ∷ p) (y ∷ q) n f = step_weigh D E a x y (dot l p) (dot l q) (f 0) (dot_weigh D E l p q (omega arith) (λ i. f (suc i)))
 
 -- ---- one variable apart: what the row comes to with 0 at v, and the entry at v times the number there
 unfoldable pub rest : ℕ → List ℤ → List ℤ → ℤ
@@ -102,8 +102,8 @@ unfolding rest
 rest-times v k l p = dot-times k l (set p v (pos 0))
 
 -- a row with nothing at v does not see what stands there
-pub dot-blind : (v : ℕ) (l p : List ℤ) → at l v ≡ pos 0 → dot l p ≡ rest v l p
-dot-blind v l p e = dot-rest v l p ∙ ap (λ (t : ℤ). rest v l p +ℤ t *ℤ at p v) e ∙ ap (λ (t : ℤ). rest v l p +ℤ t) (zero-*ℤ (at p v)) ∙ +ℤ_idr (rest v l p)
+pub dot_blind : (v : ℕ) (l p : List ℤ) → at l v ≡ pos 0 → dot l p ≡ rest v l p
+dot_blind v l p e = dot-rest v l p ∙ ap (λ (t : ℤ). rest v l p +ℤ t *ℤ at p v) e ∙ ap (λ (t : ℤ). rest v l p +ℤ t) (zero-*ℤ (at p v)) ∙ +ℤ_idr (rest v l p)
 
 -- ---- one entry changed
 pub set-zero : (p : List ℤ) (v : ℕ) → at (set p v (pos 0)) v ≡ pos 0
@@ -111,27 +111,27 @@ set-zero [] v = refl
 set-zero (x ∷ p) zero = refl
 set-zero (x ∷ p) (suc v) = set-zero p v
 
-with-blind : (v : ℕ) (z : ℤ) (l q : List ℤ) → at q v ≡ pos 0 → dot (with-entry v z l) q ≡ dot l q
-unfolding dot with-entry
-with-blind zero z [] [] e = refl
-with-blind zero z [] (x ∷ q) e = rw e (+ℤ_idr (z *ℤ pos 0) ∙ *ℤ-zero z)
-with-blind zero z (a ∷ l) [] e = refl
-with-blind zero z (a ∷ l) (x ∷ q) e = rw e (ap (λ (t : ℤ). t +ℤ dot l q) (*ℤ-zero z ∙ sym (*ℤ-zero a)))
-with-blind (suc v) z [] [] e = refl
-with-blind (suc v) z [] (x ∷ q) e = ap₂ (λ (s t : ℤ). s +ℤ t) (zero-*ℤ x) (with-blind v z [] q e)
-with-blind (suc v) z (a ∷ l) [] e = refl
-with-blind (suc v) z (a ∷ l) (x ∷ q) e = ap (λ (t : ℤ). a *ℤ x +ℤ t) (with-blind v z l q e)
+with_blind : (v : ℕ) (z : ℤ) (l q : List ℤ) → at q v ≡ pos 0 → dot (with_entry v z l) q ≡ dot l q
+unfolding dot with_entry
+with_blind zero z [] [] e = refl
+with_blind zero z [] (x ∷ q) e = rw e (+ℤ_idr (z *ℤ pos 0) ∙ *ℤ-zero z)
+with_blind zero z (a ∷ l) [] e = refl
+with_blind zero z (a ∷ l) (x ∷ q) e = rw e (ap (λ (t : ℤ). t +ℤ dot l q) (*ℤ-zero z ∙ sym (*ℤ-zero a)))
+with_blind (suc v) z [] [] e = refl
+with_blind (suc v) z [] (x ∷ q) e = ap₂ (λ (s t : ℤ). s +ℤ t) (zero-*ℤ x) (with_blind v z [] q e)
+with_blind (suc v) z (a ∷ l) [] e = refl
+with_blind (suc v) z (a ∷ l) (x ∷ q) e = ap (λ (t : ℤ). a *ℤ x +ℤ t) (with_blind v z l q e)
 
-pub rest-with : (v : ℕ) (z : ℤ) (l p : List ℤ) → rest v (with-entry v z l) p ≡ rest v l p
+pub rest-with : (v : ℕ) (z : ℤ) (l p : List ℤ) → rest v (with_entry v z l) p ≡ rest v l p
 unfolding rest
-rest-with v z l p = with-blind v z l (set p v (pos 0)) (set-zero p v)
+rest-with v z l p = with_blind v z l (set p v (pos 0)) (set-zero p v)
 
-pub dot-with : (v : ℕ) (z : ℤ) (l p : List ℤ) → dot (with-entry v z l) p ≡ rest v l p +ℤ z *ℤ at p v
-dot-with v z l p = dot-rest v (with-entry v z l) p ∙ ap₂ (λ (s t : ℤ). s +ℤ t *ℤ at p v) (rest-with v z l p) (at_with v z l)
+pub dot-with : (v : ℕ) (z : ℤ) (l p : List ℤ) → dot (with_entry v z l) p ≡ rest v l p +ℤ z *ℤ at p v
+dot-with v z l p = dot-rest v (with_entry v z l) p ∙ ap₂ (λ (s t : ℤ). s +ℤ t *ℤ at p v) (rest-with v z l p) (at_with v z l)
 
 -- ---- rows of one variable, and of none
-pub dot-zero : (l p : List ℤ) → all-zero l ≡ true → dot l p ≡ pos 0
-unfolding dot all-zero every
+pub dot-zero : (l p : List ℤ) → all_zero l ≡ true → dot l p ≡ pos 0
+unfolding dot all_zero every
 dot-zero [] p e = refl
 dot-zero (a ∷ l) [] e = refl
 dot-zero (a ∷ l) (x ∷ p) e =
@@ -151,7 +151,7 @@ dot-padded (a ∷ l) [] k = dot-zeros (a ∷ l) k
 dot-padded (a ∷ l) (x ∷ p) k = ap (λ (z : ℤ). a *ℤ x +ℤ z) (dot-padded l p k)
 
 pub dot-single : (v : ℕ) (z : ℤ) (p : List ℤ) → dot (single v z).entries p ≡ z *ℤ at p v
-unfolding rest all-zero every
+unfolding rest all_zero every
 dot-single v z p = dot-with v z (replicate 16 (pos 0)) p ∙ ap (λ (s : ℤ). s +ℤ z *ℤ at p v) (dot-zero (replicate 16 (pos 0)) (set p v (pos 0)) refl) ∙ +ℤ_idl (z *ℤ at p v)
 
 pub single-holds : (v : ℕ) (z : ℤ) (p : List ℤ) → Holds p (single v z) ↔ ((z *ℤ at p v) ≤ℤ pos 0)
@@ -168,5 +168,5 @@ pub single-below : (v : ℕ) (p : List ℤ) → Holds p (single v (pos 1)) ↔ (
 single-below v p = Iff.trans (single-holds v (pos 1) p) (rw one-*ℤ Iff.rfl)
 
 -- ---- whether a row holds is decided
-pub holds-dec : (p : List ℤ) (r : Row) → Dec (Holds p r)
-holds-dec p r = under-dec r.strict (dot r.entries p)
+pub holds_dec : (p : List ℤ) (r : Row) → Dec (Holds p r)
+holds_dec p r = under_dec r.strict (dot r.entries p)

@@ -17,13 +17,13 @@ use Rattle.integers.proofs.Whole.{zed}
 use Rattle.rows.specs.declared.Row.{Row}
 use Rattle.rows.specs.declared.Order.{Order}
 use Rattle.rows.specs.declared.Order.TheVariants.{Before, Same, After}
-use Rattle.rows.specs.Rows.{at, then_by, number-order, entry-order, flag-order, row-order, is_same, same_row}
+use Rattle.rows.specs.Rows.{at, then_by, number_order, entry_order, flag_order, row_order, is_same, same_row}
 
 -- ---- the three outcomes differ
-abbrev is-before : Order → Type 0
-is-before Before = Unit {0}
-is-before Same = ⊥
-is-before After = ⊥
+abbrev is_before : Order → Type 0
+is_before Before = Unit {0}
+is_before Same = ⊥
+is_before After = ⊥
 
 before-not-same : {G : Type 0} → Before ≡ Same → G
 before-not-same e = not-both (ap is_same e)
@@ -32,10 +32,10 @@ after-not-same : {G : Type 0} → After ≡ Same → G
 after-not-same e = not-both (ap is_same e)
 
 same-not-before : {G : Type 0} → Same ≡ Before → G
-same-not-before e = absurd (subst is-before (sym e) tt)
+same-not-before e = absurd (subst is_before (sym e) tt)
 
 after-not-before : {G : Type 0} → After ≡ Before → G
-after-not-before e = absurd (subst is-before (sym e) tt)
+after-not-before e = absurd (subst is_before (sym e) tt)
 
 -- ---- `Same` is equality
 then-left : (o q : Order) → then_by o q ≡ Same → o ≡ Same
@@ -48,7 +48,7 @@ then-right Before q e = before-not-same e
 then-right Same q e = e
 then-right After q e = after-not-same e
 
-pub number_same : (x y : ℤ) → number-order x y ≡ Same → x ≡ y
+pub number_same : (x y : ℤ) → number_order x y ≡ Same → x ≡ y
 number_same x y = go (lt_z x y) (lt_z y x) refl refl
   where
     go : (b c : Bool) → lt_z x y ≡ b → lt_z y x ≡ c → cond b Before (cond c After Same) ≡ Same → x ≡ y
@@ -56,46 +56,46 @@ number_same x y = go (lt_z x y) (lt_z y x) refl refl
     go false true f g e = after-not-same e
     go false false f g e = let a : y ≤ℤ x = lt_z_no (rw f tt) in let b : x ≤ℤ y = lt_z_no (rw g tt) in omega zed
 
-pub entries-same : (l m : List ℤ) → entry-order l m ≡ Same → l ≡ m
-unfolding entry-order
-entries-same [] [] e = refl
-entries-same [] (y ∷ m) e = before-not-same e
-entries-same (x ∷ l) [] e = after-not-same e
-entries-same (x ∷ l) (y ∷ m) e =
-    ap₂ {C = List ℤ} (λ a k. a ∷ k) (number_same x y (then-left (number-order x y) (entry-order l m) e)) (entries-same l m (then-right (number-order x y) (entry-order l m) e))
+pub entries_same : (l m : List ℤ) → entry_order l m ≡ Same → l ≡ m
+unfolding entry_order
+entries_same [] [] e = refl
+entries_same [] (y ∷ m) e = before-not-same e
+entries_same (x ∷ l) [] e = after-not-same e
+entries_same (x ∷ l) (y ∷ m) e =
+    ap₂ {C = List ℤ} (λ a k. a ∷ k) (number_same x y (then-left (number_order x y) (entry_order l m) e)) (entries_same l m (then-right (number_order x y) (entry_order l m) e))
 
-flags-same : (a b : Bool) → flag-order a b ≡ Same → a ≡ b
+flags-same : (a b : Bool) → flag_order a b ≡ Same → a ≡ b
 flags-same false false e = refl
 flags-same false true e = before-not-same e
 flags-same true false e = after-not-same e
 flags-same true true e = refl
 
-pub row_same : (r s : Row) → row-order r s ≡ Same → r ≡ s
-unfolding row-order
+pub row_same : (r s : Row) → row_order r s ≡ Same → r ≡ s
+unfolding row_order
 row_same r s e =
-    let a = entries-same r.entries s.entries (then-left (entry-order r.entries s.entries) (flag-order r.strict s.strict) e) in
-    let b = flags-same r.strict s.strict (then-right (entry-order r.entries s.entries) (flag-order r.strict s.strict) e) in
+    let a = entries_same r.entries s.entries (then-left (entry_order r.entries s.entries) (flag_order r.strict s.strict) e) in
+    let b = flags-same r.strict s.strict (then-right (entry_order r.entries s.entries) (flag_order r.strict s.strict) e) in
     λ i. record { entries = a i; strict = b i }
 
-pub number-itself : (x : ℤ) → number-order x x ≡ Same
-number-itself x = go (lt_z x x) refl
+pub number_itself : (x : ℤ) → number_order x x ≡ Same
+number_itself x = go (lt_z x x) refl
   where
     go : (b : Bool) → lt_z x x ≡ b → cond b Before (cond b After Same) ≡ Same
     go true e = let h : x <ℤ x = lt_z_yes (T_of e) in absurd (omega zed)
     go false e = refl
 
-entries-itself : (l : List ℤ) → entry-order l l ≡ Same
-unfolding entry-order
-entries-itself [] = refl
-entries-itself (x ∷ l) = ap₂ {C = Order} then_by (number-itself x) (entries-itself l)
+entries_itself : (l : List ℤ) → entry_order l l ≡ Same
+unfolding entry_order
+entries_itself [] = refl
+entries_itself (x ∷ l) = ap₂ {C = Order} then_by (number_itself x) (entries_itself l)
 
-flag-itself : (a : Bool) → flag-order a a ≡ Same
-flag-itself true = refl
-flag-itself false = refl
+flag_itself : (a : Bool) → flag_order a a ≡ Same
+flag_itself true = refl
+flag_itself false = refl
 
-pub row-itself : (r : Row) → row-order r r ≡ Same
-unfolding row-order
-row-itself r = ap₂ {C = Order} then_by (entries-itself r.entries) (flag-itself r.strict)
+pub row_itself : (r : Row) → row_order r r ≡ Same
+unfolding row_order
+row_itself r = ap₂ {C = Order} then_by (entries_itself r.entries) (flag_itself r.strict)
 
 -- ---- the test for it
 pub order_same : (o : Order) → is_same o ≡ true → o ≡ Same
@@ -103,27 +103,27 @@ order_same Before e = not-both e
 order_same Same e = refl
 order_same After e = not-both e
 
-pub same-row-is : (r s : Row) → same_row r s ≡ true → r ≡ s
+pub same_row-is : (r s : Row) → same_row r s ≡ true → r ≡ s
 unfolding same_row
-same-row-is r s e = row_same r s (order_same (row-order r s) e)
+same_row-is r s e = row_same r s (order_same (row_order r s) e)
 
-pub same-row-itself : (r : Row) → same_row r r ≡ true
+pub same_row_itself : (r : Row) → same_row r r ≡ true
 unfolding same_row
-same-row-itself r = rw (row-itself r) refl
+same_row_itself r = rw (row_itself r) refl
 
 -- an entry that differs decides it; where none does, the flags
-pub other-entry : (r s : Row) (i : ℕ) → get_or r.entries i (pos 0) ≢ get_or s.entries i (pos 0) → false ≡ same_row r s
-other-entry r s i f = sym (false_of (same_row r s) (λ t. f (ap (λ (u : Row). get_or u.entries i (pos 0)) (same-row-is r s t))))
+pub other_entry : (r s : Row) (i : ℕ) → get_or r.entries i (pos 0) ≢ get_or s.entries i (pos 0) → false ≡ same_row r s
+other_entry r s i f = sym (false_of (same_row r s) (λ t. f (ap (λ (u : Row). get_or u.entries i (pos 0)) (same_row-is r s t))))
 
-flags-alike : (a b : Bool) → beq a b ≡ is_same (flag-order a b)
+flags-alike : (a b : Bool) → beq a b ≡ is_same (flag_order a b)
 flags-alike false false = refl
 flags-alike false true = refl
 flags-alike true false = refl
 flags-alike true true = refl
 
 pub same_entries : (r s : Row) → r.entries ≡ s.entries → beq r.strict s.strict ≡ same_row r s
-unfolding same_row row-order
-same_entries r s e = rw (e, entries-itself s.entries) (flags-alike r.strict s.strict)
+unfolding same_row row_order
+same_entries r s e = rw (e, entries_itself s.entries) (flags-alike r.strict s.strict)
 
 -- ---- the comparison turned
 abbrev pub turned : Order → Order
@@ -136,7 +136,7 @@ turned_then Before q = refl
 turned_then Same q = refl
 turned_then After q = refl
 
-turned-number : (x y : ℤ) → turned (number-order x y) ≡ number-order y x
+turned-number : (x y : ℤ) → turned (number_order x y) ≡ number_order y x
 turned-number x y = go (lt_z x y) (lt_z y x) refl refl
   where
     go : (b c : Bool) → lt_z x y ≡ b → lt_z y x ≡ c → turned (cond b Before (cond c After Same)) ≡ cond c Before (cond b After Same)
@@ -145,32 +145,32 @@ turned-number x y = go (lt_z x y) (lt_z y x) refl refl
     go false true e f = refl
     go false false e f = refl
 
-turned-entries : (l m : List ℤ) → turned (entry-order l m) ≡ entry-order m l
-unfolding entry-order
-turned-entries [] [] = refl
-turned-entries [] (y ∷ m) = refl
-turned-entries (x ∷ l) [] = refl
-turned-entries (x ∷ l) (y ∷ m) = turned_then (number-order x y) (entry-order l m) ∙ ap₂ {C = Order} then_by (turned-number x y) (turned-entries l m)
+turned_entries : (l m : List ℤ) → turned (entry_order l m) ≡ entry_order m l
+unfolding entry_order
+turned_entries [] [] = refl
+turned_entries [] (y ∷ m) = refl
+turned_entries (x ∷ l) [] = refl
+turned_entries (x ∷ l) (y ∷ m) = turned_then (number_order x y) (entry_order l m) ∙ ap₂ {C = Order} then_by (turned-number x y) (turned_entries l m)
 
-turned-flags : (a b : Bool) → turned (flag-order a b) ≡ flag-order b a
+turned-flags : (a b : Bool) → turned (flag_order a b) ≡ flag_order b a
 turned-flags false false = refl
 turned-flags false true = refl
 turned-flags true false = refl
 turned-flags true true = refl
 
-pub row-turned : (r s : Row) → turned (row-order r s) ≡ row-order s r
-unfolding row-order
-row-turned r s = turned_then (entry-order r.entries s.entries) (flag-order r.strict s.strict)
-    ∙ ap₂ {C = Order} then_by (turned-entries r.entries s.entries) (turned-flags r.strict s.strict)
+pub row-turned : (r s : Row) → turned (row_order r s) ≡ row_order s r
+unfolding row_order
+row-turned r s = turned_then (entry_order r.entries s.entries) (flag_order r.strict s.strict)
+    ∙ ap₂ {C = Order} then_by (turned_entries r.entries s.entries) (turned-flags r.strict s.strict)
 
-pub after-before : (r s : Row) → row-order r s ≡ After → row-order s r ≡ Before
+pub after-before : (r s : Row) → row_order r s ≡ After → row_order s r ≡ Before
 after-before r s e = sym (row-turned r s) ∙ ap turned e
 
 -- ---- `Before` is transitive
-then-cases : (o q : Order) → then_by o q ≡ Before → (o ≡ Before) ⊎ ((o ≡ Same) × (q ≡ Before))
-then-cases Before q e = inl refl
-then-cases Same q e = inr (refl, e)
-then-cases After q e = after-not-before e
+then_cases : (o q : Order) → then_by o q ≡ Before → (o ≡ Before) ⊎ ((o ≡ Same) × (q ≡ Before))
+then_cases Before q e = inl refl
+then_cases Same q e = inr (refl, e)
+then_cases After q e = after-not-before e
 
 then-first : {o : Order} (q : Order) → o ≡ Before → then_by o q ≡ Before
 then-first q e = rw e refl
@@ -178,7 +178,7 @@ then-first q e = rw e refl
 then-second : {o q : Order} → o ≡ Same → q ≡ Before → then_by o q ≡ Before
 then-second e f = rw e f
 
-number_lt : (x y : ℤ) → number-order x y ≡ Before → x <ℤ y
+number_lt : (x y : ℤ) → number_order x y ≡ Before → x <ℤ y
 number_lt x y = go (lt_z x y) (lt_z y x) refl
   where
     go : (b c : Bool) → lt_z x y ≡ b → cond b Before (cond c After Same) ≡ Before → x <ℤ y
@@ -186,91 +186,91 @@ number_lt x y = go (lt_z x y) (lt_z y x) refl
     go false true e f = after-not-before f
     go false false e f = same-not-before f
 
-pub number-before : (x y : ℤ) → lt_z x y ≡ true → number-order x y ≡ Before
+pub number-before : (x y : ℤ) → lt_z x y ≡ true → number_order x y ≡ Before
 number-before x y t = rw t refl
 
-lt-number : (x y : ℤ) → x <ℤ y → number-order x y ≡ Before
-lt-number x y h = go (lt_z x y) refl
+lt_number : (x y : ℤ) → x <ℤ y → number_order x y ≡ Before
+lt_number x y h = go (lt_z x y) refl
   where
     go : (b : Bool) → lt_z x y ≡ b → cond b Before (cond (lt_z y x) After Same) ≡ Before
     go true e = refl
     go false e = absurd (subst T e h.lt)
 
 -- two numbers that differ, the first not below the second
-pub number-after : (x y : ℤ) → x ≢ y → lt_z x y ≡ false → number-order x y ≡ After
+pub number-after : (x y : ℤ) → x ≢ y → lt_z x y ≡ false → number_order x y ≡ After
 number-after x y d f = rw f (go (lt_z y x) refl)
   where
     go : (b : Bool) → lt_z y x ≡ b → cond b After Same ≡ After
     go true g = refl
     go false g = let a : y ≤ℤ x = lt_z_no (rw f tt) in let b : x ≤ℤ y = lt_z_no (rw g tt) in absurd (d (omega zed))
 
-number-trans : (x y z : ℤ) → number-order x y ≡ Before → number-order y z ≡ Before → number-order x z ≡ Before
-number-trans x y z e f = let a = number_lt x y e in let b = number_lt y z f in lt-number x z (omega zed)
+number-trans : (x y z : ℤ) → number_order x y ≡ Before → number_order y z ≡ Before → number_order x z ≡ Before
+number-trans x y z e f = let a = number_lt x y e in let b = number_lt y z f in lt_number x z (omega zed)
 
-entry-step : (x y z : ℤ) (p q o : Order) → (number-order x y ≡ Before) ⊎ ((number-order x y ≡ Same) × (p ≡ Before)) →
-    (number-order y z ≡ Before) ⊎ ((number-order y z ≡ Same) × (q ≡ Before)) → (p ≡ Before → q ≡ Before → o ≡ Before) → then_by (number-order x z) o ≡ Before
+entry-step : (x y z : ℤ) (p q o : Order) → (number_order x y ≡ Before) ⊎ ((number_order x y ≡ Same) × (p ≡ Before)) →
+    (number_order y z ≡ Before) ⊎ ((number_order y z ≡ Same) × (q ≡ Before)) → (p ≡ Before → q ≡ Before → o ≡ Before) → then_by (number_order x z) o ≡ Before
 entry-step x y z p q o (inl a) (inl b) ih = then-first o (number-trans x y z a b)
-entry-step x y z p q o (inl a) (inr b) ih = then-first o (subst (λ (t : ℤ). number-order x t ≡ Before) (number_same y z b.0) a)
-entry-step x y z p q o (inr a) (inl b) ih = then-first o (subst (λ (t : ℤ). number-order t z ≡ Before) (sym (number_same x y a.0)) b)
-entry-step x y z p q o (inr a) (inr b) ih = then-second (subst (λ (t : ℤ). number-order t z ≡ Same) (sym (number_same x y a.0)) b.0) (ih a.1 b.1)
+entry-step x y z p q o (inl a) (inr b) ih = then-first o (subst (λ (t : ℤ). number_order x t ≡ Before) (number_same y z b.0) a)
+entry-step x y z p q o (inr a) (inl b) ih = then-first o (subst (λ (t : ℤ). number_order t z ≡ Before) (sym (number_same x y a.0)) b)
+entry-step x y z p q o (inr a) (inr b) ih = then-second (subst (λ (t : ℤ). number_order t z ≡ Same) (sym (number_same x y a.0)) b.0) (ih a.1 b.1)
 
-entry-trans : (l m k : List ℤ) → entry-order l m ≡ Before → entry-order m k ≡ Before → entry-order l k ≡ Before
-unfolding entry-order
+entry-trans : (l m k : List ℤ) → entry_order l m ≡ Before → entry_order m k ≡ Before → entry_order l k ≡ Before
+unfolding entry_order
 entry-trans [] [] k e f = same-not-before e
 entry-trans [] (y ∷ m) [] e f = after-not-before f
 entry-trans [] (y ∷ m) (z ∷ k) e f = refl
 entry-trans (x ∷ l) [] k e f = after-not-before e
 entry-trans (x ∷ l) (y ∷ m) [] e f = after-not-before f
 entry-trans (x ∷ l) (y ∷ m) (z ∷ k) e f =
-    entry-step x y z (entry-order l m) (entry-order m k) (entry-order l k)
-    (then-cases (number-order x y) (entry-order l m) e) (then-cases (number-order y z) (entry-order m k) f) (entry-trans l m k)
+    entry-step x y z (entry_order l m) (entry_order m k) (entry_order l k)
+    (then_cases (number_order x y) (entry_order l m) e) (then_cases (number_order y z) (entry_order m k) f) (entry-trans l m k)
 
 -- among flags only non-strict is before strict
-flag-clash : {G : Type 0} (a b c : Bool) → flag-order a b ≡ Before → flag-order b c ≡ Before → G
-flag-clash false false c e f = same-not-before e
-flag-clash false true false e f = after-not-before f
-flag-clash false true true e f = same-not-before f
-flag-clash true false c e f = after-not-before e
-flag-clash true true c e f = same-not-before e
+flag_clash : {G : Type 0} (a b c : Bool) → flag_order a b ≡ Before → flag_order b c ≡ Before → G
+flag_clash false false c e f = same-not-before e
+flag_clash false true false e f = after-not-before f
+flag_clash false true true e f = same-not-before f
+flag_clash true false c e f = after-not-before e
+flag_clash true true c e f = same-not-before e
 
-row_step : (r s t : Row) → (entry-order r.entries s.entries ≡ Before) ⊎ ((entry-order r.entries s.entries ≡ Same) × (flag-order r.strict s.strict ≡ Before)) →
-    (entry-order s.entries t.entries ≡ Before) ⊎ ((entry-order s.entries t.entries ≡ Same) × (flag-order s.strict t.strict ≡ Before)) →
-    then_by (entry-order r.entries t.entries) (flag-order r.strict t.strict) ≡ Before
+row_step : (r s t : Row) → (entry_order r.entries s.entries ≡ Before) ⊎ ((entry_order r.entries s.entries ≡ Same) × (flag_order r.strict s.strict ≡ Before)) →
+    (entry_order s.entries t.entries ≡ Before) ⊎ ((entry_order s.entries t.entries ≡ Same) × (flag_order s.strict t.strict ≡ Before)) →
+    then_by (entry_order r.entries t.entries) (flag_order r.strict t.strict) ≡ Before
 row_step r s t (inl a) (inl b) = then-first _ (entry-trans r.entries s.entries t.entries a b)
-row_step r s t (inl a) (inr b) = then-first _ (subst (λ (u : List ℤ). entry-order r.entries u ≡ Before) (entries-same s.entries t.entries b.0) a)
-row_step r s t (inr a) (inl b) = then-first _ (subst (λ (u : List ℤ). entry-order u t.entries ≡ Before) (sym (entries-same r.entries s.entries a.0)) b)
-row_step r s t (inr a) (inr b) = flag-clash r.strict s.strict t.strict a.1 b.1
+row_step r s t (inl a) (inr b) = then-first _ (subst (λ (u : List ℤ). entry_order r.entries u ≡ Before) (entries_same s.entries t.entries b.0) a)
+row_step r s t (inr a) (inl b) = then-first _ (subst (λ (u : List ℤ). entry_order u t.entries ≡ Before) (sym (entries_same r.entries s.entries a.0)) b)
+row_step r s t (inr a) (inr b) = flag_clash r.strict s.strict t.strict a.1 b.1
 
-pub row-trans : (r s t : Row) → row-order r s ≡ Before → row-order s t ≡ Before → row-order r t ≡ Before
-unfolding row-order
+pub row-trans : (r s t : Row) → row_order r s ≡ Before → row_order s t ≡ Before → row_order r t ≡ Before
+unfolding row_order
 row-trans r s t e f = row_step r s t
-    (then-cases (entry-order r.entries s.entries) (flag-order r.strict s.strict) e)
-    (then-cases (entry-order s.entries t.entries) (flag-order s.strict t.strict) f)
+    (then_cases (entry_order r.entries s.entries) (flag_order r.strict s.strict) e)
+    (then_cases (entry_order s.entries t.entries) (flag_order s.strict t.strict) f)
 
-pub before-differs : (r s : Row) → row-order r s ≡ Before → s ≢ r
-before-differs r s e f = same-not-before (sym (row-itself r) ∙ subst (λ (u : Row). row-order r u ≡ Before) f e)
+pub before_differs : (r s : Row) → row_order r s ≡ Before → s ≢ r
+before_differs r s e f = same-not-before (sym (row_itself r) ∙ subst (λ (u : Row). row_order r u ≡ Before) f e)
 
 -- ---- a row with the larger constant stands behind
-first-after : (l m : List ℤ) → 0 < length l → at m 0 <ℤ at l 0 → entry-order l m ≡ After
-unfolding entry-order
+first-after : (l m : List ℤ) → 0 < length l → at m 0 <ℤ at l 0 → entry_order l m ≡ After
+unfolding entry_order
 first-after [] m h k = absurd (not-suc-le-zero h)
 first-after (x ∷ l) [] h k = refl
-first-after (x ∷ l) (y ∷ m) h k = rw (sym (turned-number y x) ∙ ap turned (lt-number y x k)) refl
+first-after (x ∷ l) (y ∷ m) h k = rw (sym (turned-number y x) ∙ ap turned (lt_number y x k)) refl
 
-pub constant-after : (r s : Row) → 0 < length r.entries → at s.entries 0 <ℤ at r.entries 0 → row-order r s ≡ After
-unfolding row-order
+pub constant-after : (r s : Row) → 0 < length r.entries → at s.entries 0 <ℤ at r.entries 0 → row_order r s ≡ After
+unfolding row_order
 constant-after r s h k = rw (first-after r.entries s.entries h k) refl
 
 -- ---- lists whose fronts are as long as each other: the order of the fronts, then that of the rests
-then-assoc : (o p q : Order) → then_by (then_by o p) q ≡ then_by o (then_by p q)
-then-assoc Before p q = refl
-then-assoc Same p q = refl
-then-assoc After p q = refl
+then_assoc : (o p q : Order) → then_by (then_by o p) q ≡ then_by o (then_by p q)
+then_assoc Before p q = refl
+then_assoc Same p q = refl
+then_assoc After p q = refl
 
-pub entries-joined : (p q l m : List ℤ) → length p ≡ length q → entry-order (p ++ l) (q ++ m) ≡ then_by (entry-order p q) (entry-order l m)
-unfolding entry-order
-entries-joined [] [] l m e = refl
-entries-joined [] (y ∷ q) l m e = absurd (omega arith)
-entries-joined (x ∷ p) [] l m e = absurd (omega arith)
-entries-joined (x ∷ p) (y ∷ q) l m e =
-    ap (then_by (number-order x y)) (entries-joined p q l m (omega arith)) ∙ sym (then-assoc (number-order x y) (entry-order p q) (entry-order l m))
+pub entries_joined : (p q l m : List ℤ) → length p ≡ length q → entry_order (p ++ l) (q ++ m) ≡ then_by (entry_order p q) (entry_order l m)
+unfolding entry_order
+entries_joined [] [] l m e = refl
+entries_joined [] (y ∷ q) l m e = absurd (omega arith)
+entries_joined (x ∷ p) [] l m e = absurd (omega arith)
+entries_joined (x ∷ p) (y ∷ q) l m e =
+    ap (then_by (number_order x y)) (entries_joined p q l m (omega arith)) ∙ sym (then_assoc (number_order x y) (entry_order p q) (entry_order l m))

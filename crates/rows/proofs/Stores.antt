@@ -13,7 +13,7 @@ use lib.IntN.{ℤ, pos, negsuc}
 use lib.Signed.{mag}
 use mir.Syntax.{w32}
 use mir.Val.{of_z}
-use Rattle.rows.specs.Rows.{entry-count, is_one, flag, numbers, row_at}
+use Rattle.rows.specs.Rows.{entry_count, is_one, flag, numbers, row_at}
 use Rattle.rows.specs.declared.Row.{Row}
 use Rattle.integers.proofs.Loops.{front, front-all}
 use Rattle.rows.proofs.Dividing.{Wide}
@@ -51,22 +51,22 @@ module _ (d s : List ℤ) (at : ℕ) (r : Row) (long : length r.entries ≡ 16) 
       rw (e, f, ← get_or-append r.entries (flag r.strict ∷ []) (pos 0) i (rw long h), add-one)
       (paste-suc d at (numbers r) i (pos 0) (omega arith) (rw numbers-length (omega arith)))
 
-  pub number-last : (v : ℤ) → s ≡ paste d at (numbers r) 16 → v ≡ flag r.strict → set s (at + 16) v ≡ take at d ++ numbers r ++ drop (at + 17) d
-  number-last v e f =
+  pub number_last : (v : ℤ) → s ≡ paste d at (numbers r) 16 → v ≡ flag r.strict → set s (at + 16) v ≡ take at d ++ numbers r ++ drop (at + 17) d
+  number_last v e f =
       rw (e, f)
       (ap (set (paste d at (numbers r) 16) (at + 16)) (sym (get_or_at r.entries (flag r.strict) [] (pos 0) 16 long)) ∙
       paste-suc d at (numbers r) 16 (pos 0) (omega arith) (rw numbers-length (omega arith)) ∙
       ap (λ (l : List ℤ). take at d ++ l ++ drop (at + 17) d) (take_all 17 (numbers r) (omega (arith, numbers-length))))
 
 -- a row that was written is read back
-flag-back : (b : Bool) → is_one (flag b) ≡ b
-flag-back false = refl
-flag-back true = refl
+flag_back : (b : Bool) → is_one (flag b) ≡ b
+flag_back false = refl
+flag_back true = refl
 
 pub row_back : (r : Row) (t : List ℤ) → Wide r → row_at (numbers r ++ t) 0 ≡ r
 row_back r t h =
     let a = append_assoc r.entries (flag r.strict ∷ []) t in
-    let e : take entry-count (numbers r ++ t) ≡ r.entries = ap (λ (l : List ℤ). take entry-count l) a ∙ take_at r.entries (flag r.strict ∷ t) entry-count h in
-    let f : get_or (numbers r ++ t) entry-count (pos 0) ≡ flag r.strict = ap (λ (l : List ℤ). get_or l entry-count (pos 0)) a ∙ get_or_at r.entries (flag r.strict) t (pos 0) entry-count h in
-    let g : is_one (get_or (numbers r ++ t) entry-count (pos 0)) ≡ r.strict = ap is_one f ∙ flag-back r.strict in
+    let e : take entry_count (numbers r ++ t) ≡ r.entries = ap (λ (l : List ℤ). take entry_count l) a ∙ take_at r.entries (flag r.strict ∷ t) entry_count h in
+    let f : get_or (numbers r ++ t) entry_count (pos 0) ≡ flag r.strict = ap (λ (l : List ℤ). get_or l entry_count (pos 0)) a ∙ get_or_at r.entries (flag r.strict) t (pos 0) entry_count h in
+    let g : is_one (get_or (numbers r ++ t) entry_count (pos 0)) ≡ r.strict = ap is_one f ∙ flag_back r.strict in
     λ i. record { entries = e i; strict = g i }

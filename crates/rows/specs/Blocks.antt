@@ -1,15 +1,15 @@
 -- The order of rows in stores, taken four entries at a time.
 use Rattle.std.specs.Prelude.{cond, List, ℕ, ◌+◌, take, drop, ℤ}
 use Rattle.rows.specs.declared.Order.{Order}
-use Rattle.rows.specs.Rows.{is_same, entry-order}
+use Rattle.rows.specs.Rows.{is_same, entry_order}
 
 -- the order of the four numbers at an offset of each store
-abbrev pub four-order : List ℤ → ℕ → List ℤ → ℕ → Order
-four-order s a t b = entry-order (take 4 (drop a s)) (take 4 (drop b t))
+abbrev pub four_order : List ℤ → ℕ → List ℤ → ℕ → Order
+four_order s a t b = entry_order (take 4 (drop a s)) (take 4 (drop b t))
 
 -- where the first block that differs begins, the front block left out, by the orders of the three others: 4, 8 or 12; 16 where none does
-abbrev pub first-differing : Order → Order → Order → ℕ
-first-differing o p q = cond (is_same o) (cond (is_same p) (cond (is_same q) 16 12) 8) 4
+abbrev pub first_differing : Order → Order → Order → ℕ
+first_differing o p q = cond (is_same o) (cond (is_same p) (cond (is_same q) 16 12) 8) 4
 
-unfoldable pub first-other : List ℤ → ℕ → List ℤ → ℕ → ℕ
-first-other s a t b = first-differing (four-order s (a + 4) t (b + 4)) (four-order s (a + 8) t (b + 8)) (four-order s (a + 12) t (b + 12))
+unfoldable pub first_other : List ℤ → ℕ → List ℤ → ℕ → ℕ
+first_other s a t b = first_differing (four_order s (a + 4) t (b + 4)) (four_order s (a + 8) t (b + 8)) (four_order s (a + 12) t (b + 12))

@@ -2,8 +2,8 @@
 -- Definitions hold for any number of entries; the code's rows have 16.
 use Rattle.std.specs.Prelude.{Bool, true, false, not, cond, ◌&&◌, ◌||◌, List, [], ◌∷◌, ◌++◌, map, ℕ, ◌+◌, ◌*◌, eqb, get_or, take, drop, replicate, ℤ, pos, negsuc, neg_ℤ, nat_abs, ◌+ℤ◌, ◌*ℤ◌, ◌≤ℤ◌, ◌<ℤ◌}
 use Rattle.std.specs.Int.Signed.{quot_z, lt_z, le_z}
-pub use Rattle.entries.specs.Entries.{entry-count, at, Within, Small, gcd-from, or-one}
-unfoldable pub use Rattle.entries.specs.Entries.{with-entry, divisor, all_small, all-zero, has-unit, plus, times}
+pub use Rattle.entries.specs.Entries.{entry_count, at, Within, Small, gcd_from, or_one}
+unfoldable pub use Rattle.entries.specs.Entries.{with_entry, divisor, all_small, all_zero, has_unit, plus, times}
 use Rattle.rows.specs.declared.Row.{Row}
 use Rattle.rows.specs.declared.Fate.TheVariants.{Kept, Gone, TooLarge}
 use Rattle.rows.specs.declared.Settled.{Settled}
@@ -13,35 +13,35 @@ use Rattle.rows.specs.declared.Clock.{Clock}
 use Rattle.rows.specs.declared.Parameter.{Parameter}
 
 -- ---- sizes: 16 entries; 17 numbers a row; 128 rows and so 2,176 numbers a set
-abbrev pub row-numbers : ℕ
-row-numbers = entry-count + 1
+abbrev pub row_numbers : ℕ
+row_numbers = entry_count + 1
 
-abbrev pub set-rows : ℕ
-set-rows = 128
+abbrev pub set_rows : ℕ
+set_rows = 128
 
-abbrev pub set-numbers : ℕ
-set-numbers = set-rows * row-numbers
+abbrev pub set_numbers : ℕ
+set_numbers = set_rows * row_numbers
 
 -- ---- entries: 0 the constant, 1 to 8 the parameters, 9 to 14 the clocks, 15 the delay
-abbrev pub parameter-entry : Parameter → ℕ
-parameter-entry p = p.0
+abbrev pub parameter_entry : Parameter → ℕ
+parameter_entry p = p.0
 
-abbrev pub clock-entry : Clock → ℕ
-clock-entry c = 8 + c.0
+abbrev pub clock_entry : Clock → ℕ
+clock_entry c = 8 + c.0
 
-abbrev pub delay-entry : ℕ
-delay-entry = 15
+abbrev pub delay_entry : ℕ
+delay_entry = 15
 
-abbrev pub empty-row : Row
-empty-row = record { entries = replicate entry-count (pos 0); strict = false }
+abbrev pub empty_row : Row
+empty_row = record { entries = replicate entry_count (pos 0); strict = false }
 
 -- z times variable v is ≤ 0
 abbrev pub single : ℕ → ℤ → Row
-single v z = record { entries = with-entry v z (replicate entry-count (pos 0)); strict = false }
+single v z = record { entries = with_entry v z (replicate entry_count (pos 0)); strict = false }
 
 -- the single form of what is false: 1 ≤ 0
-abbrev pub false-row : Row
-false-row = single 0 (pos 1)
+abbrev pub false_row : Row
+false_row = single 0 (pos 1)
 
 -- ---- what a row says: constant plus the sum of entry times variable is ≤ 0, or < 0 if strict.
 -- A point is a list of whole numbers: a denominator above zero, then a numerator for each variable. At a point the sum is
@@ -79,10 +79,10 @@ abbrev pub kept : Row → Settled
 kept r = record { row = r; fate = Kept }
 
 abbrev pub gone : Settled
-gone = record { row = empty-row; fate = Gone }
+gone = record { row = empty_row; fate = Gone }
 
 abbrev pub too_large : Settled
-too_large = record { row = empty-row; fate = TooLarge }
+too_large = record { row = empty_row; fate = TooLarge }
 
 -- no entry beyond the limit, or 9
 unfoldable pub limited : Row → Settled
@@ -90,10 +90,10 @@ limited r = cond (all_small r.entries) (kept r) too_large
 
 -- without variables: true is gone, false is 1 ≤ 0
 unfoldable pub constant : Row → Settled
-constant r = cond (under r.strict (at r.entries 0)) gone (kept false-row)
+constant r = cond (under r.strict (at r.entries 0)) gone (kept false_row)
 
-unfoldable pub divided-down : Row → Settled
-divided-down r = cond (all-zero (drop 1 r.entries)) (constant r) (limited (divided r))
+unfoldable pub divided_down : Row → Settled
+divided_down r = cond (all_zero (drop 1 r.entries)) (constant r) (limited (divided r))
 
 -- ---- pairing: b times the first plus a times the second, strict if either was; a is entry v of the first, −b that of the second
 abbrev pub paired : ℕ → Row → Row → Row
@@ -108,7 +108,7 @@ added r s = record { entries = plus r.entries s.entries; strict = r.strict || s.
 
 -- an entry is 1 or −1 and the constant is not, so a variable has it: then the row is divided down already
 unfoldable pub has_one : Row → Bool
-has_one r = has-unit r.entries && not (eqb (nat_abs (at r.entries 0)) 1)
+has_one r = has_unit r.entries && not (eqb (nat_abs (at r.entries 0)) 1)
 
 -- ---- the order of rows: entries 0 to 15 as signed numbers, then non-strict before strict
 abbrev pub then_by : Order → Order → Order
@@ -121,27 +121,27 @@ is_same Before = false
 is_same Same = true
 is_same After = false
 
-abbrev pub number-order : ℤ → ℤ → Order
-number-order x y = cond (lt_z x y) Before (cond (lt_z y x) After Same)
+abbrev pub number_order : ℤ → ℤ → Order
+number_order x y = cond (lt_z x y) Before (cond (lt_z y x) After Same)
 
-unfoldable pub entry-order : List ℤ → List ℤ → Order
-entry-order [] [] = Same
-entry-order [] (y ∷ m) = Before
-entry-order (x ∷ l) [] = After
-entry-order (x ∷ l) (y ∷ m) = then_by (number-order x y) (entry-order l m)
+unfoldable pub entry_order : List ℤ → List ℤ → Order
+entry_order [] [] = Same
+entry_order [] (y ∷ m) = Before
+entry_order (x ∷ l) [] = After
+entry_order (x ∷ l) (y ∷ m) = then_by (number_order x y) (entry_order l m)
 
-abbrev pub flag-order : Bool → Bool → Order
-flag-order false false = Same
-flag-order false true = Before
-flag-order true false = After
-flag-order true true = Same
+abbrev pub flag_order : Bool → Bool → Order
+flag_order false false = Same
+flag_order false true = Before
+flag_order true false = After
+flag_order true true = Same
 
-unfoldable pub row-order : Row → Row → Order
-row-order r s = then_by (entry-order r.entries s.entries) (flag-order r.strict s.strict)
+unfoldable pub row_order : Row → Row → Order
+row_order r s = then_by (entry_order r.entries s.entries) (flag_order r.strict s.strict)
 
 -- two rows are the same where neither stands before the other
 unfoldable pub same_row : Row → Row → Bool
-same_row r s = is_same (row-order r s)
+same_row r s = is_same (row_order r s)
 
 -- ---- a row in a store: its 16 entries, then 1 for strict, else 0
 abbrev pub flag : Bool → ℤ
@@ -157,7 +157,7 @@ numbers r = r.entries ++ flag r.strict ∷ []
 
 -- the row that stands at an offset, and the store with a row written there
 abbrev pub row_at : List ℤ → ℕ → Row
-row_at s at = record { entries = take entry-count (drop at s); strict = is_one (get_or s (at + entry-count) (pos 0)) }
+row_at s at = record { entries = take entry_count (drop at s); strict = is_one (get_or s (at + entry_count) (pos 0)) }
 
 abbrev pub with_row : List ℤ → ℕ → Row → List ℤ
-with_row s at r = take at s ++ numbers r ++ drop (at + row-numbers) s
+with_row s at r = take at s ++ numbers r ++ drop (at + row_numbers) s

@@ -1,8 +1,8 @@
 // Rows: 16 signed entries and a strict flag, by value; what is done with them, and how they stand in a lent store.
 ghost use Rattle.std.specs.Prelude.{◌≡◌, ◌||◌, ◌+◌, ◌≤◌, ◌<◌, ◌^◌, leb, length};
-ghost use Rattle.integers.specs.Limits.{given-limit};
-ghost use Rattle.rows.specs.Rows.{entry-count, row-numbers, set-rows, set-numbers, parameter-entry, clock-entry, empty-row, single, false-row, dot, under, holds_at, Within, Small, negated, constant, divided-down, paired, added, has_one, is_same, flag-order, row-order, same_row, flag, row_at, with_row};
-ghost use Rattle.rows.specs.Blocks.{four-order, first-other};
+ghost use Rattle.integers.specs.Limits.{given_limit};
+ghost use Rattle.rows.specs.Rows.{entry_count, row_numbers, set_rows, set_numbers, parameter_entry, clock_entry, empty_row, single, false_row, dot, under, holds_at, Within, Small, negated, constant, divided_down, paired, added, has_one, is_same, flag_order, row_order, same_row, flag, row_at, with_row};
+ghost use Rattle.rows.specs.Blocks.{four_order, first_other};
 
 #[derive(Drop)]
 pub struct Row {
@@ -57,14 +57,14 @@ impl Set {
 
     // Whether no further row may join.
     pub fn is_full(self) -> bool
-        ensures { result ≡ leb set-rows self.rows }
+        ensures { result ≡ leb set_rows self.rows }
     {
         Set::ROWS <= self.rows
     }
 
     // Whether a store of so many numbers takes any set.
     pub fn fits_in(numbers: usize) -> bool
-        ensures { result ≡ leb set-numbers numbers }
+        ensures { result ≡ leb set_numbers numbers }
     {
         Set::NUMBERS <= numbers
     }
@@ -72,7 +72,7 @@ impl Set {
 
 impl Clock {
     pub fn entry(self) -> usize
-        ensures { result ≡ clock-entry self }
+        ensures { result ≡ clock_entry self }
     {
         let n = self.0;
         8 + n as usize
@@ -81,7 +81,7 @@ impl Clock {
 
 impl Parameter {
     pub fn entry(self) -> usize
-        ensures { result ≡ parameter-entry self }
+        ensures { result ≡ parameter_entry self }
     {
         let n = self.0;
         n as usize
@@ -98,7 +98,7 @@ impl Row {
     pub const LIMIT: i32 = entries::LIMIT;
 
     pub fn empty() -> Row
-        ensures { result ≡ empty-row }
+        ensures { result ≡ empty_row }
     {
         Row {
             entries: [0; Row::ENTRIES],
@@ -108,7 +108,7 @@ impl Row {
 
     // Inner step: x times the variable of entry v is ≤ 0.
     pub fn single(v: usize, x: i32) -> Row
-        requires { v < entry-count }
+        requires { v < entry_count }
         ensures { result ≡ single v x }
     {
         let mut entries = [0i32; Row::ENTRIES];
@@ -122,7 +122,7 @@ impl Row {
     // Inner step: x times the clock is ≤ 0. The clock is declared.
     pub fn of_clock(c: Clock, x: i32) -> Row
         requires { c.0 ≤ 6 }
-        ensures { result ≡ single (clock-entry c) x }
+        ensures { result ≡ single (clock_entry c) x }
     {
         Row::single(c.entry(), x)
     }
@@ -130,14 +130,14 @@ impl Row {
     // Inner step: x times the parameter is ≤ 0. The parameter is declared.
     pub fn of_parameter(p: Parameter, x: i32) -> Row
         requires { p.0 ≤ 8 }
-        ensures { result ≡ single (parameter-entry p) x }
+        ensures { result ≡ single (parameter_entry p) x }
     {
         Row::single(p.entry(), x)
     }
 
     // 1 ≤ 0.
     pub fn falsehood() -> Row
-        ensures { result ≡ false-row }
+        ensures { result ≡ false_row }
     {
         Row::single(0, 1)
     }
@@ -161,9 +161,9 @@ impl Row {
     // Inner step: the row divided down, written at an offset of a store; the answer is what became of it. A row returned by value would be copied once more.
     // Any entries, also the least number of the type. Nearly all rows that need dividing have one magnitude throughout: only signs are left.
     pub fn divided_into(self, to: &mut [i32], at: usize) -> Fate
-        requires { at + row-numbers ≤ length to.old }
-        ensures value { result ≡ (divided-down self).fate }
-        ensures to_after { to.new ≡ with_row to.old at (divided-down self).row }
+        requires { at + row_numbers ≤ length to.old }
+        ensures value { result ≡ (divided_down self).fate }
+        ensures to_after { to.new ≡ with_row to.old at (divided_down self).row }
     {
         let e = self.entries;
         let x = entries::first_variable(e);
@@ -185,7 +185,7 @@ impl Row {
 
     // The row divided down, by value.
     pub fn divided_down(self) -> Settled
-        ensures { result ≡ divided-down self }
+        ensures { result ≡ divided_down self }
     {
         let mut to = [0i32; Row::NUMBERS];
         let fate = self.divided_into(&mut to, 0);
@@ -197,8 +197,8 @@ impl Row {
 
     // Inner step: the pair of two rows of a set, divided down. It needs no sign at v.
     pub fn paired(self, other: Row, v: usize) -> Settled
-        requires { (v < entry-count) × Small self.entries × Small other.entries }
-        ensures { result ≡ divided-down (paired v self other) }
+        requires { (v < entry_count) × Small self.entries × Small other.entries }
+        ensures { result ≡ divided_down (paired v self other) }
     {
         let x = self.entries;
         let y = other.entries;
@@ -243,7 +243,7 @@ impl Row {
 
     // Inner step: the row's sum at a setting, a denominator and eight numerators, none beyond 1,000,000.
     pub fn value(self, setting: [i64; 9]) -> i64
-        requires { Small self.entries × Within given-limit setting }
+        requires { Small self.entries × Within given_limit setting }
         ensures { result ≡ dot self.entries setting }
     {
         let e = self.entries;
@@ -256,7 +256,7 @@ impl Row {
 
     // Inner step: whether the setting, with every clock at 0, meets the row.
     pub fn holds(self, setting: [i64; 9]) -> bool
-        requires { Small self.entries × Within given-limit setting }
+        requires { Small self.entries × Within given_limit setting }
         ensures { result ≡ holds_at setting self }
     {
         is_under(self.strict, self.value(setting))
@@ -264,7 +264,7 @@ impl Row {
 
     // Inner step: whether it is the row that stands at an offset of a store.
     pub fn is_at(self, s: &[i32], at: usize) -> bool
-        requires { at + row-numbers ≤ length s.now }
+        requires { at + row_numbers ≤ length s.now }
         ensures { result ≡ same_row self (row_at s.now at) }
     {
         let e = self.entries;
@@ -279,7 +279,7 @@ impl Row {
 
     // Inner step: the row that stands at an offset of a store.
     pub fn read(s: &[i32], at: usize) -> Row
-        requires { at + row-numbers ≤ length s.now }
+        requires { at + row_numbers ≤ length s.now }
         ensures { result ≡ row_at s.now at }
     {
         let mut to = [0i32; Row::ENTRIES];
@@ -294,7 +294,7 @@ impl Row {
 
     // Inner step: the row written at an offset of a store.
     pub fn write(self, s: &mut [i32], at: usize)
-        requires { at + row-numbers ≤ length s.old }
+        requires { at + row_numbers ≤ length s.old }
         ensures { s.new ≡ with_row s.old at self }
     {
         let from = self.entries;
@@ -307,8 +307,8 @@ impl Row {
     // Inner step: the order of the rows that stand at two offsets. Most rows differ in their first four entries. Where they do not,
     // the other blocks of four are only compared for sameness, a whole block at once, until one differs.
     pub fn order_in(s: &[i32], a: usize, t: &[i32], b: usize) -> Order
-        requires { (a + row-numbers ≤ length s.now) × (b + row-numbers ≤ length t.now) }
-        ensures { result ≡ row-order (row_at s.now a) (row_at t.now b) }
+        requires { (a + row_numbers ≤ length s.now) × (b + row_numbers ≤ length t.now) }
+        ensures { result ≡ row_order (row_at s.now a) (row_at t.now b) }
     {
         let o = order_of_four(s, a, t, b);
         match o {
@@ -328,7 +328,7 @@ impl Row {
 // The order of the four numbers at each of two offsets, by the first that differ.
 fn order_of_four(s: &[i32], a: usize, t: &[i32], b: usize) -> Order
     requires { (a + 4 ≤ length s.now) × (b + 4 ≤ length t.now) }
-    ensures { result ≡ four-order s.now a t.now b }
+    ensures { result ≡ four_order s.now a t.now b }
 {
     for i in 0..4 {
         let p = s[a + i];
@@ -346,7 +346,7 @@ fn order_of_four(s: &[i32], a: usize, t: &[i32], b: usize) -> Order
 // Whether the four numbers are the same. There is no way out of the loop, so that the compiler takes them together.
 fn same_four(s: &[i32], a: usize, t: &[i32], b: usize) -> bool
     requires { (a + 4 ≤ length s.now) × (b + 4 ≤ length t.now) }
-    ensures { result ≡ is_same (four-order s.now a t.now b) }
+    ensures { result ≡ is_same (four_order s.now a t.now b) }
 {
     let mut same = true;
     for i in 0..4 {
@@ -357,8 +357,8 @@ fn same_four(s: &[i32], a: usize, t: &[i32], b: usize) -> bool
 
 // Where the first block of four that differs begins, the front block left out: 4, 8 or 12; 16 where none does.
 fn first_other(s: &[i32], a: usize, t: &[i32], b: usize) -> usize
-    requires { (a + entry-count ≤ length s.now) × (b + entry-count ≤ length t.now) }
-    ensures { result ≡ first-other s.now a t.now b }
+    requires { (a + entry_count ≤ length s.now) × (b + entry_count ≤ length t.now) }
+    ensures { result ≡ first_other s.now a t.now b }
 {
     if !same_four(s, a + 4, t, b + 4) {
         return 4;
@@ -386,7 +386,7 @@ fn either(a: bool, b: bool) -> bool
 }
 
 fn order_of_flags(a: bool, b: bool) -> Order
-    ensures { result ≡ flag-order a b }
+    ensures { result ≡ flag_order a b }
 {
     if a {
         if b { Order::Same } else { Order::After }
@@ -403,7 +403,7 @@ fn number_of_flag(b: bool) -> i32
 
 // A settled row, written at an offset of a store; the answer is what became of it.
 fn give(s: Settled, to: &mut [i32], at: usize) -> Fate
-    requires { at + row-numbers ≤ length to.old }
+    requires { at + row_numbers ≤ length to.old }
     ensures value { result ≡ s.fate }
     ensures to_after { to.new ≡ with_row to.old at s.row }
 {
@@ -430,7 +430,7 @@ fn constant(l: [i64; 16], strict: bool) -> Settled
 // Entries in 64 bits divided down: the form that both a given row and a pair take.
 fn lowered(l: [i64; 16], strict: bool) -> Settled
     requires { Within (2 ^ 62) l }
-    ensures { result ≡ divided-down (record { entries = l; strict = strict }) }
+    ensures { result ≡ divided_down (record { entries = l; strict = strict }) }
 {
     if entries::no_variables(l) {
         return constant(l, strict);

@@ -9,10 +9,10 @@ use lib.ListN.{length, get_or, set, take, drop, length-drop, take-append-drop, g
 use lib.Seq.{paste, paste-suc, length-take-le, get_or-take, get_or-drop, drop_at, drop-drop, take-take, take-add, take-append-le}
 use lib.IntN.{ℤ, pos}
 use Rattle.rows.specs.declared.Row.{Row}
-use Rattle.rows.specs.Rows.{row-numbers, numbers, with_row}
+use Rattle.rows.specs.Rows.{row_numbers, numbers, with_row}
 use Rattle.sets.specs.Stores.{whole_numbers, zeroed}
 use Rattle.sets.proofs.Parts.{part-before}
-use Rattle.sets.proofs.Stores.{length-zeroed, getD-zeroed, drop-zeroed}
+use Rattle.sets.proofs.Stores.{length-zeroed, getD_zeroed, drop-zeroed}
 
 -- ---- numbers written once more, g places higher and the first of them first: what is read next was not written
 module _ (s t : List ℤ) (a g i : ℕ) (up : i < g) (room : a + g + g ≤ length s) (is : t ≡ paste s (a + g) (drop a s) i) where
@@ -54,8 +54,8 @@ module _ (s t : List ℤ) (m i : ℕ) (from : m ≤ i) (is : t ≡ paste s m (dr
       let j = i - m in
       let e : m + j ≡ i = omega arith in
       let f : i + 1 - m ≡ suc j = omega arith in
-      let w = div-mul-le_self (length s) row-numbers in
-      let v : get_or z j (pos 0) ≡ pos 0 = get_or-drop m (zeroed s) j (pos 0) ∙ getD-zeroed s (m + j) (omega arith) in
+      let w = div-mul-le_self (length s) row_numbers in
+      let v : get_or z j (pos 0) ≡ pos 0 = get_or-drop m (zeroed s) j (pos 0) ∙ getD_zeroed s (m + j) (omega arith) in
       rw (is, f)
       (ap (λ (n : ℕ). set (paste s m z j) n (pos 0)) (sym e) ∙ ap (set (paste s m z j) (m + j)) (sym v) ∙
       paste-suc s m z j (pos 0) (omega arith) (rw (length-drop, length-zeroed) (omega arith)))
@@ -69,15 +69,15 @@ module _ (s t : List ℤ) (m i : ℕ) (from : m ≤ i) (is : t ≡ paste s m (dr
       rw (is, ← f, ← drop-drop j m (zeroed s)) (append_assoc (take m s) (take j z) (drop j z) ∙ ap (λ (l : List ℤ). take m s ++ l) (take-append-drop j z))
 
 -- ---- a row written where numbers have moved up: they stand behind it
-pub written-between : (s t : List ℤ) (r : Row) (a end : ℕ) → a ≤ end → end + row-numbers ≤ length s →
-    t ≡ take (a + row-numbers) s ++ take (end - a) (drop a s) ++ drop (end + row-numbers) s →
-    with_row t a r ≡ take a s ++ numbers r ++ (take (end - a) (drop a s) ++ drop (end + row-numbers) s)
+pub written-between : (s t : List ℤ) (r : Row) (a end : ℕ) → a ≤ end → end + row_numbers ≤ length s →
+    t ≡ take (a + row_numbers) s ++ take (end - a) (drop a s) ++ drop (end + row_numbers) s →
+    with_row t a r ≡ take a s ++ numbers r ++ (take (end - a) (drop a s) ++ drop (end + row_numbers) s)
 written-between s t r a end h room is =
-    let p = take (a + row-numbers) s in
+    let p = take (a + row_numbers) s in
     let x = take (end - a) (drop a s) in
-    let y = drop (end + row-numbers) s in
-    let n : length p ≡ a + row-numbers = length-take-le (a + row-numbers) s (omega arith) in
+    let y = drop (end + row_numbers) s in
+    let n : length p ≡ a + row_numbers = length-take-le (a + row_numbers) s (omega arith) in
     let b : t ≡ p ++ (x ++ y) = is ∙ append_assoc p x y in
-    let f : take a t ≡ take a s = rw (b, take-append-le a p (x ++ y) (omega arith)) (take-take a (a + row-numbers) s (omega arith)) in
-    let g : drop (a + row-numbers) t ≡ x ++ y = rw b (drop_at p (x ++ y) (a + row-numbers) n) in
+    let f : take a t ≡ take a s = rw (b, take-append-le a p (x ++ y) (omega arith)) (take-take a (a + row_numbers) s (omega arith)) in
+    let g : drop (a + row_numbers) t ≡ x ++ y = rw b (drop_at p (x ++ y) (a + row_numbers) n) in
     rw (f, g)

@@ -6,7 +6,7 @@ use Prim.Native.Nat.{◌≤◌}
 use lib.ListN.{length}
 use lib.IntN.{ℤ}
 use Rattle.rows.specs.declared.Row.{Row}
-use Rattle.rows.specs.Rows.{set-numbers}
+use Rattle.rows.specs.Rows.{set_numbers}
 use Rattle.sets.specs.declared.Joined.{Joined}
 use Rattle.sets.specs.Outcomes.{Result, found}
 use Rattle.sets.specs.Stores.{zeroed, Left}
@@ -17,7 +17,7 @@ module _ (x : Result (List Row)) (s s₁ s₂ : List ℤ) (r₁ r₂ : Joined) (
   pub only-answer : r₁ ≡ r₂
   only-answer = h.answer ∙ sym k.answer
 
-  pub only-cleared : Proper x → set-numbers ≤ length s → zeroed s₁ ≡ zeroed s₂
+  pub only-cleared : Proper x → set_numbers ≤ length s → zeroed s₁ ≡ zeroed s₂
   only-cleared g l = zeroed-touched l (left-touched x s s₁ r₁ g l h) ∙ sym (zeroed-touched l (left-touched x s s₂ r₂ g l k))
 
   pub only_store : (t : List Row) → x ≡ found t → s₁ ≡ s₂

@@ -7,32 +7,32 @@ use Rattle.integers.proofs.Lists.{all_map, all_of, all_in, all_filter}
 use Rattle.rows.specs.declared.Row.{Row}
 use Rattle.rows.specs.declared.Order.{Order}
 use Rattle.rows.specs.declared.Order.TheVariants.{Before, Same, After}
-use Rattle.rows.specs.Rows.{divided-down, row-order}
-use Rattle.rows.proofs.Ordering.{after-before, row-trans, before-differs}
-use Rattle.rows.proofs.Dividing.{if-all}
+use Rattle.rows.specs.Rows.{divided_down, row_order}
+use Rattle.rows.proofs.Ordering.{after-before, row-trans, before_differs}
+use Rattle.rows.proofs.Dividing.{if_all}
 use Rattle.sets.specs.Outcomes.{found}
-use Rattle.sets.specs.Sets.{InOrder, none, one, more, place, insert, joined-all, joined}
-use Rattle.sets.proofs.Joining.{joined-found, joined-all-carries}
+use Rattle.sets.specs.Sets.{InOrder, none, one, more, place, insert, joined_all, joined}
+use Rattle.sets.proofs.Joining.{joined-found, joined_all_carries}
 
-pub order-tail : {r : Row} {l : List Row} → InOrder (r ∷ l) → InOrder l
-order-tail one = none
-order-tail (more e h) = h
+pub order_tail : {r : Row} {l : List Row} → InOrder (r ∷ l) → InOrder l
+order_tail one = none
+order_tail (more e h) = h
 
-pub order-head : {r s : Row} {l : List Row} → InOrder (r ∷ s ∷ l) → row-order r s ≡ Before
-order-head (more e h) = e
+pub order_head : {r s : Row} {l : List Row} → InOrder (r ∷ s ∷ l) → row_order r s ≡ Before
+order_head (more e h) = e
 
 -- what stands first after an insertion behind s is behind s
-insert-behind : (s r : Row) (l : List Row) → row-order s r ≡ Before → InOrder (s ∷ l) → InOrder (insert r l) → InOrder (s ∷ insert r l)
+insert-behind : (s r : Row) (l : List Row) → row_order s r ≡ Before → InOrder (s ∷ l) → InOrder (insert r l) → InOrder (s ∷ insert r l)
 unfolding insert
 insert-behind s r [] e h k = more e one
-insert-behind s r (u ∷ l) e h k = go (row-order r u) k
+insert-behind s r (u ∷ l) e h k = go (row_order r u) k
   where
     go : (o : Order) → InOrder (place o r u l (insert r l)) → InOrder (s ∷ place o r u l (insert r l))
     go Before k = more e k
-    go Same k = more (order-head h) k
-    go After k = more (order-head h) k
+    go Same k = more (order_head h) k
+    go After k = more (order_head h) k
 
-place-ordered : (r s : Row) (l : List Row) → InOrder (s ∷ l) → InOrder (insert r l) → (o : Order) → row-order r s ≡ o → InOrder (place o r s l (insert r l))
+place-ordered : (r s : Row) (l : List Row) → InOrder (s ∷ l) → InOrder (insert r l) → (o : Order) → row_order r s ≡ o → InOrder (place o r s l (insert r l))
 place-ordered r s l h ih Before e = more e h
 place-ordered r s l h ih Same e = h
 place-ordered r s l h ih After e = insert-behind s r l (after-before r s e) h ih
@@ -40,37 +40,37 @@ place-ordered r s l h ih After e = insert-behind s r l (after-before r s e) h ih
 pub insert-ordered : (r : Row) (l : List Row) → InOrder l → InOrder (insert r l)
 unfolding insert
 insert-ordered r [] h = one
-insert-ordered r (s ∷ l) h = place-ordered r s l h (insert-ordered r l (order-tail h)) (row-order r s) refl
+insert-ordered r (s ∷ l) h = place-ordered r s l h (insert-ordered r l (order_tail h)) (row_order r s) refl
 
-pub joined-all-ordered : (rs s t : List Row) → joined-all rs s ≡ found t → InOrder s → InOrder t
-joined-all-ordered rs s t e =
-    joined-all-carries (λ r. Unit {0}) InOrder
-    (λ r s u h. if-all (λ q. InOrder (insert q s)) (λ q. insert-ordered q s h) (divided-down r).fate (divided-down r).row)
+pub joined_all-ordered : (rs s t : List Row) → joined_all rs s ≡ found t → InOrder s → InOrder t
+joined_all-ordered rs s t e =
+    joined_all_carries (λ r. Unit {0}) InOrder
+    (λ r s u h. if_all (λ q. InOrder (insert q s)) (λ q. insert-ordered q s h) (divided_down r).fate (divided_down r).row)
     rs s t e (all_of rs (λ r. tt))
 
 pub joined-ordered : (rs s t : List Row) → joined rs s ≡ found t → InOrder s → InOrder t
-joined-ordered rs s t e = joined-all-ordered rs s t (joined-found rs s t e).0
+joined-ordered rs s t e = joined_all-ordered rs s t (joined-found rs s t e).0
 
 -- ---- the first row is before every other
-pub first-before : {r : Row} {l : List Row} → InOrder (r ∷ l) → All (λ s. row-order r s ≡ Before) l
+pub first-before : {r : Row} {l : List Row} → InOrder (r ∷ l) → All (λ s. row_order r s ≡ Before) l
 first-before one = nil
 first-before {r = r} (more {s = s} e h) = cons e (all_map (λ t f. row-trans r s t e f) (first-before h))
 
 -- so no row stands twice
-pub no-twice : (k : List Row) (r : Row) (l : List Row) → InOrder (k ++ r ∷ l) → ¬ In r l
-no-twice [] r l h i = before-differs r r (all_in (first-before h) i) refl
-no-twice (s ∷ k) r l h i = no-twice k r l (order-tail h) i
+pub no_twice : (k : List Row) (r : Row) (l : List Row) → InOrder (k ++ r ∷ l) → ¬ In r l
+no_twice [] r l h i = before_differs r r (all_in (first-before h) i) refl
+no_twice (s ∷ k) r l h i = no_twice k r l (order_tail h) i
 
 -- ---- some rows of a set are in order too
-pub order-cons : {r : Row} {l : List Row} → All (λ s. row-order r s ≡ Before) l → InOrder l → InOrder (r ∷ l)
-order-cons nil h = one
-order-cons (cons e a) h = more e h
+pub order_cons : {r : Row} {l : List Row} → All (λ s. row_order r s ≡ Before) l → InOrder l → InOrder (r ∷ l)
+order_cons nil h = one
+order_cons (cons e a) h = more e h
 
 pub filter-ordered : (f : Row → Bool) (l : List Row) → InOrder l → InOrder (filter f l)
 unfolding filter
 filter-ordered f [] h = none
-filter-ordered f (r ∷ l) h = go (f r) (filter-ordered f l (order-tail h)) ((all_filter f l).1 (all_map (λ s e t. e) (first-before h)))
+filter-ordered f (r ∷ l) h = go (f r) (filter-ordered f l (order_tail h)) ((all_filter f l).1 (all_map (λ s e t. e) (first-before h)))
   where
-    go : (b : Bool) → InOrder (filter f l) → All (λ s. row-order r s ≡ Before) (filter f l) → InOrder (cond b (r ∷ filter f l) (filter f l))
-    go true o a = order-cons a o
+    go : (b : Bool) → InOrder (filter f l) → All (λ s. row_order r s ≡ Before) (filter f l) → InOrder (cond b (r ∷ filter f l) (filter f l))
+    go true o a = order_cons a o
     go false o a = o

@@ -10,12 +10,12 @@ is_found (refused n) = ⊥
 pub refused-not : {A G : Type 0} {n : Refusal} {a : A} → refused n ≡ found a → G
 refused-not e = absurd (subst is_found (sym e) tt)
 
-abbrev value-or : {A : Type 0} → A → Result A → A
-value-or d (found a) = a
-value-or d (refused n) = d
+abbrev value_or : {A : Type 0} → A → Result A → A
+value_or d (found a) = a
+value_or d (refused n) = d
 
 pub found-same : {A : Type 0} {a b : A} → found a ≡ found b → a ≡ b
-found-same {A} {a} {b} e = ap (value-or a) e
+found-same {A} {a} {b} e = ap (value_or a) e
 
 -- two steps found something: so did the first, and the second of that
 pub record Then {A B : Type 0} (o : Result A) (f : A → Result B) (b : B) : Type 0 where

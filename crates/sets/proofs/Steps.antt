@@ -14,8 +14,8 @@ use Rattle.integers.specs.Lists.{All, cons}
 use Rattle.rows.specs.declared.Row.{Row}
 use Rattle.rows.specs.declared.Fate.{Fate}
 use Rattle.rows.specs.declared.Fate.TheVariants.{Kept, Gone, TooLarge}
-use Rattle.rows.specs.Rows.{row-numbers, set-rows, set-numbers, Small, numbers, kept, divided-down, row_at, with_row}
-use Rattle.rows.proofs.Dividing.{Wide, IfKept, divided-down-small, divided-down-wide}
+use Rattle.rows.specs.Rows.{row_numbers, set_rows, set_numbers, Small, numbers, kept, divided_down, row_at, with_row}
+use Rattle.rows.proofs.Dividing.{Wide, IfKept, divided_down-small, divided_down-wide}
 use Rattle.sets.specs.declared.Place.TheVariants.{Standing, At}
 use Rattle.sets.specs.declared.Refusal.{Refusal}
 use Rattle.sets.specs.declared.Refusal.TheVariants.{EntryTooLarge, TooManyRows}
@@ -23,34 +23,34 @@ use Rattle.sets.specs.declared.Outcome.{Outcome}
 use Rattle.sets.specs.declared.Outcome.TheVariants.{Found, Refused}
 use Rattle.sets.specs.declared.Joined.{Joined}
 use Rattle.sets.specs.Outcomes.{Result, found, refused, and_then}
-use Rattle.sets.specs.Sets.{InOrder, insert, place_of, put, joined-all, within-limit, joined}
-use Rattle.sets.specs.Stores.{numbers_of, rows_at, with_rows, set-in, HoldsSet, counted, Touched, Left, next, so_far, progress, Standing-by, Ready, put_all}
+use Rattle.sets.specs.Sets.{InOrder, insert, place_of, put, joined_all, within_limit, joined}
+use Rattle.sets.specs.Stores.{numbers_of, rows_at, with_rows, set_in, HoldsSet, counted, Touched, Left, next, so_far, progress, StandingBy, Ready, put_all}
 use Rattle.sets.proofs.Parts.{drop-take}
-use Rattle.sets.proofs.Stores.{length-numbers-of, numbers-of-append, numbers-of-take, numbers-of-drop, length-rows-at, rows-with-rows, with-rows-itself, with-rows-twice, holds-with-rows, holds-wide, touched_none, touched-twice, touched-with-rows}
+use Rattle.sets.proofs.Stores.{length-numbers_of, numbers_of-append, numbers_of-take, numbers_of-drop, length-rows_at, rows-with_rows, with_rows_itself, with_rows_twice, holds-with_rows, holds-wide, touched_none, touched_twice, touched-with_rows}
 use Rattle.sets.proofs.Ordered.{insert-ordered}
-use Rattle.sets.proofs.Canon.{insert-grows}
+use Rattle.sets.proofs.Canon.{insert_grows}
 use Rattle.sets.proofs.Joining.{insert_all}
-use Rattle.sets.proofs.Places.{insert-at, insert-standing, insert-last, place-within}
+use Rattle.sets.proofs.Places.{insert-at, insert-standing, insert_last, place-within}
 use Rattle.sets.proofs.Moving.{written-between}
 
 -- ---- at most 128 rows, or 10
-pub within-few : (t : List Row) → length t ≤ set-rows → within-limit t ≡ found t
-unfolding within-limit
-within-few t h = rw (le-leb (length t) set-rows h)
+pub within-few : (t : List Row) → length t ≤ set_rows → within_limit t ≡ found t
+unfolding within_limit
+within-few t h = rw (le-leb (length t) set_rows h)
 
-pub within-many : (t : List Row) → set-rows < length t → within-limit t ≡ refused TooManyRows
-unfolding within-limit
-within-many t h = rw (lt-leb (length t) set-rows h)
+pub within_many : (t : List Row) → set_rows < length t → within_limit t ≡ refused TooManyRows
+unfolding within_limit
+within_many t h = rw (lt-leb (length t) set_rows h)
 
-within-is : (t : List Row) → within-limit t ≡ cond (leb (length t) set-rows) (found t) (refused TooManyRows)
-unfolding within-limit
+within-is : (t : List Row) → within_limit t ≡ cond (leb (length t) set_rows) (found t) (refused TooManyRows)
+unfolding within_limit
 within-is t = refl
 
-pub counted-few : (n : ℕ) → n ≤ set-rows → counted n ≡ record { rows = n; outcome = Found }
-counted-few n h = rw (le-leb n set-rows h)
+pub counted-few : (n : ℕ) → n ≤ set_rows → counted n ≡ record { rows = n; outcome = Found }
+counted-few n h = rw (le-leb n set_rows h)
 
-pub counted-many : (n : ℕ) → set-rows < n → counted n ≡ record { rows = 0; outcome = Refused TooManyRows }
-counted-many n h = rw (lt-leb n set-rows h)
+pub counted_many : (n : ℕ) → set_rows < n → counted n ≡ record { rows = 0; outcome = Refused TooManyRows }
+counted_many n h = rw (lt-leb n set_rows h)
 
 -- ---- a row inserted
 length-between : (r : Row) (l : List Row) (k : ℕ) → k ≤ length l → length (take k l ++ r ∷ drop k l) ≡ length l + 1
@@ -58,16 +58,16 @@ length-between r l k h = omega (arith, length-append (take k l) (r ∷ drop k l)
 
 module _ (s : List ℤ) (n : ℕ) (r : Row) (holds : HoldsSet s n) where
   abbrev rows : List Row
-  rows = set-in s n
+  rows = set_in s n
 
   count : length rows ≡ n
-  count = length-rows-at s 0 n
+  count = length-rows_at s 0 n
 
   -- it stands there: nothing changes
-  pub left-standing : Standing ≡ place_of r rows → Left (within-limit (insert r rows)) s s (counted n)
+  pub left-standing : Standing ≡ place_of r rows → Left (within_limit (insert r rows)) s s (counted n)
   left-standing e =
       rw (insert-standing r rows e, within-few rows (rw count holds.few), counted-few n holds.few)
-      (record { answer = rw count refl; store = sym (with-rows-itself s n holds.stands) })
+      (record { answer = rw count refl; store = sym (with_rows_itself s n holds.stands) })
 
   module _ (k : ℕ) (place : At k ≡ place_of r rows) where
     within : k ≤ n
@@ -77,43 +77,43 @@ module _ (s : List ℤ) (n : ℕ) (r : Row) (holds : HoldsSet s n) where
     grown = rw (insert-at r rows k place, length-between r rows k (place-within r rows k place), count)
 
     -- it would be the 129th
-    pub left-full : n ≡ set-rows → Left (within-limit (insert r rows)) s s (counted (n + 1))
-    left-full e = rw (within-many (insert r rows) (omega (arith, grown)), counted-many (n + 1) (omega arith)) (record { answer = refl; store = touched_none s })
+    pub left_full : n ≡ set_rows → Left (within_limit (insert r rows)) s s (counted (n + 1))
+    left_full e = rw (within_many (insert r rows) (omega (arith, grown)), counted_many (n + 1) (omega arith)) (record { answer = refl; store = touched_none s })
 
     -- the rows behind it move up, and it is written between
-    module _ (wide : Wide r) (few : n < set-rows) where
-      below : numbers_of (take k rows) ≡ take (k * row-numbers) s
+    module _ (wide : Wide r) (few : n < set_rows) where
+      below : numbers_of (take k rows) ≡ take (k * row_numbers) s
       below =
-          sym (numbers-of-take rows (holds-wide holds) k (place-within r rows k place)) ∙
-          ap (λ (l : List ℤ). take (k * row-numbers) l) (sym holds.stands.same) ∙ take-take (k * row-numbers) (n * row-numbers) s (omega (arith, within))
+          sym (numbers_of-take rows (holds-wide holds) k (place-within r rows k place)) ∙
+          ap (λ (l : List ℤ). take (k * row_numbers) l) (sym holds.stands.same) ∙ take-take (k * row_numbers) (n * row_numbers) s (omega (arith, within))
 
-      above : numbers_of (drop k rows) ≡ take (n * row-numbers - k * row-numbers) (drop (k * row-numbers) s)
+      above : numbers_of (drop k rows) ≡ take (n * row_numbers - k * row_numbers) (drop (k * row_numbers) s)
       above =
-          let m : k * row-numbers + (n * row-numbers - k * row-numbers) ≡ n * row-numbers = omega (arith, within) in
-          sym (numbers-of-drop rows (holds-wide holds) k (place-within r rows k place)) ∙
-          ap (λ (l : List ℤ). drop (k * row-numbers) l) (sym holds.stands.same) ∙
-          ap (λ (i : ℕ). drop (k * row-numbers) (take i s)) (sym m) ∙ drop-take (k * row-numbers) (n * row-numbers - k * row-numbers) s
+          let m : k * row_numbers + (n * row_numbers - k * row_numbers) ≡ n * row_numbers = omega (arith, within) in
+          sym (numbers_of-drop rows (holds-wide holds) k (place-within r rows k place)) ∙
+          ap (λ (l : List ℤ). drop (k * row_numbers) l) (sym holds.stands.same) ∙
+          ap (λ (i : ℕ). drop (k * row_numbers) (take i s)) (sym m) ∙ drop-take (k * row_numbers) (n * row_numbers - k * row_numbers) s
 
       between : take k rows ++ r ∷ drop k rows ≡ insert r rows
       between = sym (insert-at r rows k place)
 
-      inserted : numbers_of (insert r rows) ≡ take (k * row-numbers) s ++ (numbers r ++ take (n * row-numbers - k * row-numbers) (drop (k * row-numbers) s))
+      inserted : numbers_of (insert r rows) ≡ take (k * row_numbers) s ++ (numbers r ++ take (n * row_numbers - k * row_numbers) (drop (k * row_numbers) s))
       unfolding numbers_of
       inserted =
-          ap numbers_of (sym between) ∙ numbers-of-append (take k rows) (r ∷ drop k rows) ∙
+          ap numbers_of (sym between) ∙ numbers_of-append (take k rows) (r ∷ drop k rows) ∙
           ap₂ {C = List ℤ} (λ x y. x ++ (numbers r ++ y)) below above
 
-      length_inserted : length (numbers_of (insert r rows)) ≡ n * row-numbers + row-numbers
-      length_inserted = omega (arith, length-numbers-of ((insert_all r rows).1 (wide, holds-wide holds)), grown)
+      length_inserted : length (numbers_of (insert r rows)) ≡ n * row_numbers + row_numbers
+      length_inserted = omega (arith, length-numbers_of ((insert_all r rows).1 (wide, holds-wide holds)), grown)
 
-      pub left-inserted : (t u : List ℤ) →
-          t ≡ take (k * row-numbers + row-numbers) s ++ take (n * row-numbers - k * row-numbers) (drop (k * row-numbers) s) ++ drop (n * row-numbers + row-numbers) s →
-          u ≡ with_row t (k * row-numbers) r → Left (within-limit (insert r rows)) s u (counted (n + 1))
+      pub left_inserted : (t u : List ℤ) →
+          t ≡ take (k * row_numbers + row_numbers) s ++ take (n * row_numbers - k * row_numbers) (drop (k * row_numbers) s) ++ drop (n * row_numbers + row_numbers) s →
+          u ≡ with_row t (k * row_numbers) r → Left (within_limit (insert r rows)) s u (counted (n + 1))
       unfolding with_rows
-      left-inserted t u e f =
-          let a = k * row-numbers in
-          let b = n * row-numbers in
-          let room : b + row-numbers ≤ length s = omega (arith, holds.long) in
+      left_inserted t u e f =
+          let a = k * row_numbers in
+          let b = n * row_numbers in
+          let room : b + row_numbers ≤ length s = omega (arith, holds.long) in
           rw (within-few (insert r rows) (omega (arith, grown)), counted-few (n + 1) (omega arith))
           (record {
             answer = rw grown refl;
@@ -123,69 +123,69 @@ module _ (s : List ℤ) (n : ℕ) (r : Row) (holds : HoldsSet s n) where
           })
 
 -- ---- a settled row put
-so-far-left : (s : List ℤ) (n : ℕ) (o : Outcome) → Standing-by s n o → Left (so_far s n o) s s (record { rows = n; outcome = o })
-so-far-left s n Found h = record { answer = rw length-rows-at refl; store = sym (with-rows-itself s n h.stands) }
-so-far-left s n (Refused q) h = record { answer = ap (λ (k : ℕ). record { rows = k; outcome = Refused q }) h; store = touched_none s }
+so_far-left : (s : List ℤ) (n : ℕ) (o : Outcome) → StandingBy s n o → Left (so_far s n o) s s (record { rows = n; outcome = o })
+so_far-left s n Found h = record { answer = rw length-rows_at refl; store = sym (with_rows_itself s n h.stands) }
+so_far-left s n (Refused q) h = record { answer = ap (λ (k : ℕ). record { rows = k; outcome = Refused q }) h; store = touched_none s }
 
 -- where nothing is put, all is as it was
-pub ready-left : (s : List ℤ) (c : Joined) → Ready s c → Left (progress s c) s s c
-ready-left s c h = so-far-left s c.rows c.outcome h.holds
+pub ready_left : (s : List ℤ) (c : Joined) → Ready s c → Left (progress s c) s s c
+ready_left s c h = so_far-left s c.rows c.outcome h.holds
 
 -- by what became of the row, and by the outcome so far
 module _ (s : List ℤ) (c : Joined) (r : Row) where
   pub put-gone : (f : Fate) → Ready s c → f ≡ Gone → Left (next f r (progress s c)) s s c
-  put-gone f h e = rw e (ready-left s c h)
+  put-gone f h e = rw e (ready_left s c h)
 
-  pub put-large : (f : Fate) → f ≡ TooLarge → Left (next f r (progress s c)) s s (record { rows = 0; outcome = Refused EntryTooLarge })
-  put-large f e = rw e (record { answer = refl; store = touched_none s })
+  pub put_large : (f : Fate) → f ≡ TooLarge → Left (next f r (progress s c)) s s (record { rows = 0; outcome = Refused EntryTooLarge })
+  put_large f e = rw e (record { answer = refl; store = touched_none s })
 
   pub put_refused : Ready s c → (q : Refusal) → c.outcome ≡ Refused q → Left (next Kept r (progress s c)) s s c
-  put_refused h q d = rw d (rw d at (ready-left s c h))
+  put_refused h q d = rw d (rw d at (ready_left s c h))
 
-  pub put-inserted : c.outcome ≡ Found → (s' : List ℤ) (x : Joined) → Left (within-limit (insert r (set-in s c.rows))) s s' x → Left (next Kept r (progress s c)) s s' x
-  put-inserted d s' x h = rw d h
+  pub put_inserted : c.outcome ≡ Found → (s' : List ℤ) (x : Joined) → Left (within_limit (insert r (set_in s c.rows))) s s' x → Left (next Kept r (progress s c)) s s' x
+  put_inserted d s' x h = rw d h
 
-pub ready-start : {s : List ℤ} {n : ℕ} → HoldsSet s n → Ready s (record { rows = n; outcome = Found })
-ready-start h = record { long = h.long; holds = h }
+pub ready_start : {s : List ℤ} {n : ℕ} → HoldsSet s n → Ready s (record { rows = n; outcome = Found })
+ready_start h = record { long = h.long; holds = h }
 
-pub ready-holds : (s : List ℤ) (c : Joined) → Ready s c → c.outcome ≡ Found → HoldsSet s c.rows
-ready-holds s c h e = rw e at h.holds
+pub ready_holds : (s : List ℤ) (c : Joined) → Ready s c → c.outcome ≡ Found → HoldsSet s c.rows
+ready_holds s c h e = rw e at h.holds
 
 -- ---- what a step leaves for the next: a set that may stand in a store, or a refusal
 abbrev pub IsSet : List Row → Type 0
-IsSet t = InOrder t × All (λ r. Small r.entries) t × All Wide t × (length t ≤ set-rows)
+IsSet t = InOrder t × All (λ r. Small r.entries) t × All Wide t × (length t ≤ set_rows)
 
 abbrev pub Proper : Result (List Row) → Type 0
 Proper (found t) = IsSet t
 Proper (refused q) = Unit {0}
 
-pub set-in-store : {s : List ℤ} {n : ℕ} → HoldsSet s n → IsSet (set-in s n)
-set-in-store {s} {n} h = (h.ordered, h.small, holds-wide h, rw length-rows-at h.few)
+pub set_in-store : {s : List ℤ} {n : ℕ} → HoldsSet s n → IsSet (set_in s n)
+set_in-store {s} {n} h = (h.ordered, h.small, holds-wide h, rw length-rows_at h.few)
 
-so-far-proper : (s : List ℤ) (n : ℕ) (o : Outcome) → Standing-by s n o → Proper (so_far s n o)
-so-far-proper s n Found h = set-in-store h
-so-far-proper s n (Refused q) h = tt
+so_far_proper : (s : List ℤ) (n : ℕ) (o : Outcome) → StandingBy s n o → Proper (so_far s n o)
+so_far_proper s n Found h = set_in-store h
+so_far_proper s n (Refused q) h = tt
 
-pub ready-proper : (s : List ℤ) (c : Joined) → Ready s c → Proper (progress s c)
-ready-proper s c h = so-far-proper s c.rows c.outcome h.holds
+pub ready_proper : (s : List ℤ) (c : Joined) → Ready s c → Proper (progress s c)
+ready_proper s c h = so_far_proper s c.rows c.outcome h.holds
 
 -- the answer and the store of a step say its result
 pub left-progress : (x : Result (List Row)) (s s' : List ℤ) (c : Joined) → Proper x → Left x s s' c → progress s' c ≡ x
 left-progress (found t) s s' c g h =
-    rw (h.answer, h.store) (ap {B = Result (List Row)} found (rows-with-rows t s g.2))
+    rw (h.answer, h.store) (ap {B = Result (List Row)} found (rows-with_rows t s g.2))
 left-progress (refused q) s s' c g h = rw h.answer refl
 
-pub left-touched : (x : Result (List Row)) (s s' : List ℤ) (c : Joined) → Proper x → set-numbers ≤ length s → Left x s s' c → Touched s s'
-left-touched (found t) s s' c g l h = rw h.store (touched-with-rows t s g.2 g.3 l)
+pub left-touched : (x : Result (List Row)) (s s' : List ℤ) (c : Joined) → Proper x → set_numbers ≤ length s → Left x s s' c → Touched s s'
+left-touched (found t) s s' c g l h = rw h.store (touched-with_rows t s g.2 g.3 l)
 left-touched (refused q) s s' c g l h = h.store
 
-pub left-ready : (x : Result (List Row)) (s s' : List ℤ) (c : Joined) → Proper x → set-numbers ≤ length s → Left x s s' c → Ready s' c
-left-ready (found t) s s' c g l h =
+pub left_ready : (x : Result (List Row)) (s s' : List ℤ) (c : Joined) → Proper x → set_numbers ≤ length s → Left x s s' c → Ready s' c
+left_ready (found t) s s' c g l h =
     record {
       long = rw (left-touched (found t) s s' c g l h).long l;
-      holds = rw (h.answer, h.store) (holds-with-rows t s g.0 g.1 g.2 g.3 l);
+      holds = rw (h.answer, h.store) (holds-with_rows t s g.0 g.1 g.2 g.3 l);
     }
-left-ready (refused q) s s' c g l h = record { long = rw h.store.long l; holds = rw h.answer refl }
+left_ready (refused q) s s' c g l h = record { long = rw h.store.long l; holds = rw h.answer refl }
 
 -- two steps one after the other: a set that is found has at least the rows that were there
 abbrev pub Grows : Result (List Row) → Result (List Row) → Type 0
@@ -193,182 +193,182 @@ Grows x (refused q) = Unit {0}
 Grows (found t) (found u) = length t ≤ length u
 Grows (refused q) (found u) = ⊥
 
-pub left-twice : (x y : Result (List Row)) (s s' s'' : List ℤ) (c d : Joined) → Proper x → Proper y → Grows x y → set-numbers ≤ length s → Left x s s' c → Left y s' s'' d → Left y s s'' d
-left-twice (found t) (found u) s s' s'' c d f g m l h k =
-    let e : length (numbers_of t) ≤ length (numbers_of u) = omega (arith, length-numbers-of f.2, length-numbers-of g.2) in
-    record { answer = k.answer; store = k.store ∙ ap (with_rows u) h.store ∙ with-rows-twice t u s e }
-left-twice (refused q) (found u) s s' s'' c d f g m l h k = absurd m
-left-twice (found t) (refused p) s s' s'' c d f g m l h k = record { answer = k.answer; store = touched-twice (left-touched (found t) s s' c f l h) k.store }
-left-twice (refused q) (refused p) s s' s'' c d f g m l h k = record { answer = k.answer; store = touched-twice h.store k.store }
+pub left_twice : (x y : Result (List Row)) (s s' s'' : List ℤ) (c d : Joined) → Proper x → Proper y → Grows x y → set_numbers ≤ length s → Left x s s' c → Left y s' s'' d → Left y s s'' d
+left_twice (found t) (found u) s s' s'' c d f g m l h k =
+    let e : length (numbers_of t) ≤ length (numbers_of u) = omega (arith, length-numbers_of f.2, length-numbers_of g.2) in
+    record { answer = k.answer; store = k.store ∙ ap (with_rows u) h.store ∙ with_rows_twice t u s e }
+left_twice (refused q) (found u) s s' s'' c d f g m l h k = absurd m
+left_twice (found t) (refused p) s s' s'' c d f g m l h k = record { answer = k.answer; store = touched_twice (left-touched (found t) s s' c f l h) k.store }
+left_twice (refused q) (refused p) s s' s'' c d f g m l h k = record { answer = k.answer; store = touched_twice h.store k.store }
 
 -- ---- one row more
-within-proper : (t : List Row) → InOrder t → All (λ r. Small r.entries) t → All Wide t → Proper (within-limit t)
-unfolding within-limit
-within-proper t o m w = go (leb (length t) set-rows) refl
+within_proper : (t : List Row) → InOrder t → All (λ r. Small r.entries) t → All Wide t → Proper (within_limit t)
+unfolding within_limit
+within_proper t o m w = go (leb (length t) set_rows) refl
   where
-    go : (b : Bool) → leb (length t) set-rows ≡ b → Proper (cond b (found t) (refused TooManyRows))
-    go true e = (o, m, w, leb-true (length t) set-rows e)
+    go : (b : Bool) → leb (length t) set_rows ≡ b → Proper (cond b (found t) (refused TooManyRows))
+    go true e = (o, m, w, leb-true (length t) set_rows e)
     go false e = tt
 
-within-grows : (t u : List Row) → length t ≤ length u → Grows (found t) (within-limit u)
-unfolding within-limit
-within-grows t u h = go (leb (length u) set-rows)
+within_grows : (t u : List Row) → length t ≤ length u → Grows (found t) (within_limit u)
+unfolding within_limit
+within_grows t u h = go (leb (length u) set_rows)
   where
     go : (b : Bool) → Grows (found t) (cond b (found u) (refused TooManyRows))
     go true = h
     go false = tt
 
-pub next-proper : (f : Fate) (r : Row) (x : Result (List Row)) → IfKept (λ q. Small q.entries) f r → IfKept Wide f r → Proper x → Proper (next f r x)
-next-proper Kept r (found t) m w g = within-proper (insert r t) (insert-ordered r t g.0) ((insert_all r t).1 (m, g.1)) ((insert_all r t).1 (w, g.2))
-next-proper Kept r (refused q) m w g = tt
-next-proper Gone r x m w g = g
-next-proper TooLarge r x m w g = tt
+pub next_proper : (f : Fate) (r : Row) (x : Result (List Row)) → IfKept (λ q. Small q.entries) f r → IfKept Wide f r → Proper x → Proper (next f r x)
+next_proper Kept r (found t) m w g = within_proper (insert r t) (insert-ordered r t g.0) ((insert_all r t).1 (m, g.1)) ((insert_all r t).1 (w, g.2))
+next_proper Kept r (refused q) m w g = tt
+next_proper Gone r x m w g = g
+next_proper TooLarge r x m w g = tt
 
-grows-itself : (x : Result (List Row)) → Grows x x
-grows-itself (found t) = le_refl (length t)
-grows-itself (refused q) = tt
+grows_itself : (x : Result (List Row)) → Grows x x
+grows_itself (found t) = le_refl (length t)
+grows_itself (refused q) = tt
 
 next_grows : (f : Fate) (r : Row) (x : Result (List Row)) → Grows x (next f r x)
-next_grows Kept r (found t) = within-grows t (insert r t) (insert-grows r t)
+next_grows Kept r (found t) = within_grows t (insert r t) (insert_grows r t)
 next_grows Kept r (refused q) = tt
-next_grows Gone r x = grows-itself x
+next_grows Gone r x = grows_itself x
 next_grows TooLarge r x = tt
 
 -- after a row was put: what the answer says, that a further row may be put, and what has become of the store since the first step
 module _ (f : Fate) (r : Row) (small : IfKept (λ q. Small q.entries) f r) (wide : IfKept Wide f r) (s s' : List ℤ) (c c' : Joined) (ready : Ready s c)
     (put : Left (next f r (progress s c)) s s' c') where
   proper : Proper (next f r (progress s c))
-  proper = next-proper f r (progress s c) small wide (ready-proper s c ready)
+  proper = next_proper f r (progress s c) small wide (ready_proper s c ready)
 
   pub put-progress : progress s' c' ≡ next f r (progress s c)
   put-progress = left-progress (next f r (progress s c)) s s' c' proper put
 
-  pub put-ready : Ready s' c'
-  put-ready = left-ready (next f r (progress s c)) s s' c' proper ready.long put
+  pub put_ready : Ready s' c'
+  put_ready = left_ready (next f r (progress s c)) s s' c' proper ready.long put
 
-  pub put-left : (s₀ : List ℤ) → set-numbers ≤ length s₀ → Left (progress s c) s₀ s c → Left (progress s' c') s₀ s' c'
+  pub put-left : (s₀ : List ℤ) → set_numbers ≤ length s₀ → Left (progress s c) s₀ s c → Left (progress s' c') s₀ s' c'
   put-left s₀ l h =
       rw put-progress
-      (left-twice (progress s c) (next f r (progress s c)) s₀ s s' c c' (ready-proper s c ready) proper (next_grows f r (progress s c)) l h put)
+      (left_twice (progress s c) (next f r (progress s c)) s₀ s s' c c' (ready_proper s c ready) proper (next_grows f r (progress s c)) l h put)
 
 -- 9 stays, whatever comes
-pub put-all-large : (rs : List Row) → put_all rs (refused EntryTooLarge) ≡ refused EntryTooLarge
+pub put_all_large : (rs : List Row) → put_all rs (refused EntryTooLarge) ≡ refused EntryTooLarge
 unfolding put_all
-put-all-large [] = refl
-put-all-large (r ∷ rs) = go (divided-down r).fate (put-all-large rs)
+put_all_large [] = refl
+put_all_large (r ∷ rs) = go (divided_down r).fate (put_all_large rs)
   where
-    go : (f : Fate) → put_all rs (refused EntryTooLarge) ≡ refused EntryTooLarge → put_all rs (next f (divided-down r).row (refused EntryTooLarge)) ≡ refused EntryTooLarge
+    go : (f : Fate) → put_all rs (refused EntryTooLarge) ≡ refused EntryTooLarge → put_all rs (next f (divided_down r).row (refused EntryTooLarge)) ≡ refused EntryTooLarge
     go Kept e = e
     go Gone e = e
     go TooLarge e = e
 
 -- too many rows stay too many, unless 9 comes
-pub put-all-many : (rs t : List Row) → set-rows < length t → put_all rs (refused TooManyRows) ≡ joined rs t
-unfolding put_all joined joined-all and_then
-put-all-many [] t h = sym (within-many t h)
-put-all-many (r ∷ rs) t h = go (divided-down r).fate (divided-down r).row (put-all-many rs)
+pub put_all_many : (rs t : List Row) → set_rows < length t → put_all rs (refused TooManyRows) ≡ joined rs t
+unfolding put_all joined joined_all and_then
+put_all_many [] t h = sym (within_many t h)
+put_all_many (r ∷ rs) t h = go (divided_down r).fate (divided_down r).row (put_all_many rs)
   where
-    go : (f : Fate) (q : Row) → ((u : List Row) → set-rows < length u → put_all rs (refused TooManyRows) ≡ joined rs u) →
-        put_all rs (next f q (refused TooManyRows)) ≡ and_then (and_then (put f q t) (λ u. joined-all rs u)) within-limit
-    go Kept q ih = ih (insert q t) (omega (arith, insert-grows q t))
+    go : (f : Fate) (q : Row) → ((u : List Row) → set_rows < length u → put_all rs (refused TooManyRows) ≡ joined rs u) →
+        put_all rs (next f q (refused TooManyRows)) ≡ and_then (and_then (put f q t) (λ u. joined_all rs u)) within_limit
+    go Kept q ih = ih (insert q t) (omega (arith, insert_grows q t))
     go Gone q ih = ih t h
-    go TooLarge q ih = put-all-large rs
+    go TooLarge q ih = put_all_large rs
 
-pub joined-put-all : (rs t : List Row) → length t ≤ set-rows → put_all rs (found t) ≡ joined rs t
-unfolding put_all joined joined-all and_then
-joined-put-all [] t h = sym (within-few t h)
-joined-put-all (r ∷ rs) t h = go (divided-down r).fate (divided-down r).row (joined-put-all rs)
+pub joined-put_all : (rs t : List Row) → length t ≤ set_rows → put_all rs (found t) ≡ joined rs t
+unfolding put_all joined joined_all and_then
+joined-put_all [] t h = sym (within-few t h)
+joined-put_all (r ∷ rs) t h = go (divided_down r).fate (divided_down r).row (joined-put_all rs)
   where
-    more : (u : List Row) (b : Bool) → leb (length u) set-rows ≡ b → ((u : List Row) → length u ≤ set-rows → put_all rs (found u) ≡ joined rs u) →
+    more : (u : List Row) (b : Bool) → leb (length u) set_rows ≡ b → ((u : List Row) → length u ≤ set_rows → put_all rs (found u) ≡ joined rs u) →
         put_all rs (cond b (found u) (refused TooManyRows)) ≡ joined rs u
-    more u true e ih = ih u (leb-true (length u) set-rows e)
-    more u false e ih = put-all-many rs u (leb-false (length u) set-rows e)
+    more u true e ih = ih u (leb-true (length u) set_rows e)
+    more u false e ih = put_all_many rs u (leb-false (length u) set_rows e)
 
-    go : (f : Fate) (q : Row) → ((u : List Row) → length u ≤ set-rows → put_all rs (found u) ≡ joined rs u) →
-        put_all rs (next f q (found t)) ≡ and_then (and_then (put f q t) (λ u. joined-all rs u)) within-limit
-    go Kept q ih = ap (put_all rs) (within-is (insert q t)) ∙ more (insert q t) (leb (length (insert q t)) set-rows) refl ih
+    go : (f : Fate) (q : Row) → ((u : List Row) → length u ≤ set_rows → put_all rs (found u) ≡ joined rs u) →
+        put_all rs (next f q (found t)) ≡ and_then (and_then (put f q t) (λ u. joined_all rs u)) within_limit
+    go Kept q ih = ap (put_all rs) (within-is (insert q t)) ∙ more (insert q t) (leb (length (insert q t)) set_rows) refl ih
     go Gone q ih = ih t h
-    go TooLarge q ih = put-all-large rs
+    go TooLarge q ih = put_all_large rs
 
 -- so what joining finds may stand in a store, and has at least the rows that were there
-pub put-all-proper : (rs : List Row) (x : Result (List Row)) → All Wide rs → Proper x → Proper (put_all rs x)
+pub put_all_proper : (rs : List Row) (x : Result (List Row)) → All Wide rs → Proper x → Proper (put_all rs x)
 unfolding put_all
-put-all-proper [] x w g = g
-put-all-proper (r ∷ rs) x (cons h w) g =
-    put-all-proper rs (next (divided-down r).fate (divided-down r).row x) w
-    (next-proper (divided-down r).fate (divided-down r).row x (divided-down-small r) (divided-down-wide r h) g)
+put_all_proper [] x w g = g
+put_all_proper (r ∷ rs) x (cons h w) g =
+    put_all_proper rs (next (divided_down r).fate (divided_down r).row x) w
+    (next_proper (divided_down r).fate (divided_down r).row x (divided_down-small r) (divided_down-wide r h) g)
 
-pub joined-proper : (rs t : List Row) → All Wide rs → IsSet t → Proper (joined rs t)
-joined-proper rs t w g = rw (← joined-put-all rs t g.3) (put-all-proper rs (found t) w g)
+pub joined_proper : (rs t : List Row) → All Wide rs → IsSet t → Proper (joined rs t)
+joined_proper rs t w g = rw (← joined-put_all rs t g.3) (put_all_proper rs (found t) w g)
 
-grows-twice : (x y z : Result (List Row)) → Grows x y → Grows y z → Grows x z
-grows-twice x y (refused q) h k = tt
-grows-twice (found t) (found u) (found v) h k = le_trans h k
-grows-twice (refused p) (found u) (found v) h k = h
-grows-twice x (refused q) (found v) h k = absurd k
+grows_twice : (x y z : Result (List Row)) → Grows x y → Grows y z → Grows x z
+grows_twice x y (refused q) h k = tt
+grows_twice (found t) (found u) (found v) h k = le_trans h k
+grows_twice (refused p) (found u) (found v) h k = h
+grows_twice x (refused q) (found v) h k = absurd k
 
-pub put-all-grows : (rs : List Row) (x : Result (List Row)) → Grows x (put_all rs x)
+pub put_all_grows : (rs : List Row) (x : Result (List Row)) → Grows x (put_all rs x)
 unfolding put_all
-put-all-grows [] x = grows-itself x
-put-all-grows (r ∷ rs) x =
-    let y = next (divided-down r).fate (divided-down r).row x in
-    grows-twice x y (put_all rs y) (next_grows (divided-down r).fate (divided-down r).row x) (put-all-grows rs y)
+put_all_grows [] x = grows_itself x
+put_all_grows (r ∷ rs) x =
+    let y = next (divided_down r).fate (divided_down r).row x in
+    grows_twice x y (put_all rs y) (next_grows (divided_down r).fate (divided_down r).row x) (put_all_grows rs y)
 
 -- after rows were joined: what the answer says, that a further row may be put, and what has become of the store since the first step
 module _ (rs : List Row) (wide : All Wide rs) (s s' : List ℤ) (c c' : Joined) (ready : Ready s c) (left : Left (put_all rs (progress s c)) s s' c') where
-  all-proper : Proper (put_all rs (progress s c))
-  all-proper = put-all-proper rs (progress s c) wide (ready-proper s c ready)
+  all_proper : Proper (put_all rs (progress s c))
+  all_proper = put_all_proper rs (progress s c) wide (ready_proper s c ready)
 
-  pub put-all-progress : progress s' c' ≡ put_all rs (progress s c)
-  put-all-progress = left-progress (put_all rs (progress s c)) s s' c' all-proper left
+  pub put_all-progress : progress s' c' ≡ put_all rs (progress s c)
+  put_all-progress = left-progress (put_all rs (progress s c)) s s' c' all_proper left
 
-  pub put-all-ready : Ready s' c'
-  put-all-ready = left-ready (put_all rs (progress s c)) s s' c' all-proper ready.long left
+  pub put_all_ready : Ready s' c'
+  put_all_ready = left_ready (put_all rs (progress s c)) s s' c' all_proper ready.long left
 
-  pub put-all-left : (s₀ : List ℤ) → set-numbers ≤ length s₀ → Left (progress s c) s₀ s c → Left (progress s' c') s₀ s' c'
-  put-all-left s₀ l h =
-      rw put-all-progress
-      (left-twice (progress s c) (put_all rs (progress s c)) s₀ s s' c c' (ready-proper s c ready) all-proper (put-all-grows rs (progress s c)) l h left)
+  pub put_all-left : (s₀ : List ℤ) → set_numbers ≤ length s₀ → Left (progress s c) s₀ s c → Left (progress s' c') s₀ s' c'
+  put_all-left s₀ l h =
+      rw put_all-progress
+      (left_twice (progress s c) (put_all rs (progress s c)) s₀ s s' c c' (ready_proper s c ready) all_proper (put_all_grows rs (progress s c)) l h left)
 
 -- ---- rows joined in two parts
-pub put-all-append : (l m : List Row) (x : Result (List Row)) → put_all (l ++ m) x ≡ put_all m (put_all l x)
+pub put_all-append : (l m : List Row) (x : Result (List Row)) → put_all (l ++ m) x ≡ put_all m (put_all l x)
 unfolding put_all
-put-all-append [] m x = refl
-put-all-append (r ∷ l) m x = put-all-append l m (next (divided-down r).fate (divided-down r).row x)
+put_all-append [] m x = refl
+put_all-append (r ∷ l) m x = put_all-append l m (next (divided_down r).fate (divided_down r).row x)
 
 -- ---- a set whose rows are divided down joins the empty one as it stands: each row is put behind the others
-joined-behind : (s l : List Row) → InOrder (s ++ l) → All (λ r. divided-down r ≡ kept r) l → joined-all l s ≡ found (s ++ l)
-unfolding joined-all and_then
+joined-behind : (s l : List Row) → InOrder (s ++ l) → All (λ r. divided_down r ≡ kept r) l → joined_all l s ≡ found (s ++ l)
+unfolding joined_all and_then
 joined-behind s [] h a = ap {B = Result (List Row)} found (sym (append-nil s))
 joined-behind s (r ∷ l) h (cons e a) =
-    rw (e, insert-last s r l h)
+    rw (e, insert_last s r l h)
     (joined-behind (s ++ r ∷ []) l (rw (append_snoc s r l) h) a ∙ ap {B = Result (List Row)} found (append_snoc s r l))
 
-pub joined-itself : (l : List Row) → InOrder l → All (λ r. divided-down r ≡ kept r) l → length l ≤ set-rows → joined l [] ≡ found l
+pub joined_itself : (l : List Row) → InOrder l → All (λ r. divided_down r ≡ kept r) l → length l ≤ set_rows → joined l [] ≡ found l
 unfolding joined and_then
-joined-itself l o a h = rw (joined-behind [] l o a) (within-few l h)
+joined_itself l o a h = rw (joined-behind [] l o a) (within-few l h)
 
 -- ---- the rows of a store, the next one being row i
 module _ (from : List ℤ) (at m i : ℕ) where
-  pub rows_left : i < m → rows_at from (at + i * row-numbers) (m - i) ≡ row_at from (at + i * row-numbers) ∷ rows_at from (at + (i + 1) * row-numbers) (m - (i + 1))
+  pub rows_left : i < m → rows_at from (at + i * row_numbers) (m - i) ≡ row_at from (at + i * row_numbers) ∷ rows_at from (at + (i + 1) * row_numbers) (m - (i + 1))
   unfolding rows_at
   rows_left h =
       let e : m - i ≡ suc (m - (i + 1)) = omega arith in
-      let f : at + (i + 1) * row-numbers ≡ at + i * row-numbers + row-numbers = omega arith in
+      let f : at + (i + 1) * row_numbers ≡ at + i * row_numbers + row_numbers = omega arith in
       rw (e, f)
 
-  pub rows-done : m ≤ i → rows_at from (at + i * row-numbers) (m - i) ≡ []
+  pub rows-done : m ≤ i → rows_at from (at + i * row_numbers) (m - i) ≡ []
   unfolding rows_at
   rows-done h = let e : m - i ≡ 0 = omega arith in rw e
 
-  pub put-all-row : i < m → (x y : Result (List Row)) → y ≡ next (divided-down (row_at from (at + i * row-numbers))).fate (divided-down (row_at from (at + i * row-numbers))).row x →
-      put_all (rows_at from (at + (i + 1) * row-numbers) (m - (i + 1))) y ≡ put_all (rows_at from (at + i * row-numbers) (m - i)) x
+  pub put_all-row : i < m → (x y : Result (List Row)) → y ≡ next (divided_down (row_at from (at + i * row_numbers))).fate (divided_down (row_at from (at + i * row_numbers))).row x →
+      put_all (rows_at from (at + (i + 1) * row_numbers) (m - (i + 1))) y ≡ put_all (rows_at from (at + i * row_numbers) (m - i)) x
   unfolding put_all
-  put-all-row h x y e = rw (rows_left h, e)
+  put_all-row h x y e = rw (rows_left h, e)
 
-  pub put-all-done : m ≤ i → (x : Result (List Row)) → put_all (rows_at from (at + i * row-numbers) (m - i)) x ≡ x
+  pub put_all-done : m ≤ i → (x : Result (List Row)) → put_all (rows_at from (at + i * row_numbers) (m - i)) x ≡ x
   unfolding put_all
-  put-all-done h x = rw (rows-done h)
+  put_all-done h x = rw (rows-done h)
 
-pub put-all-start : (from : List ℤ) (at m : ℕ) (t : List Row) → length t ≤ set-rows → put_all (rows_at from (at + 0 * row-numbers) (m - 0)) (found t) ≡ joined (rows_at from at m) t
-put-all-start from at m t h = rw (add-zero, sub-zero) (joined-put-all (rows_at from at m) t h)
+pub put_all-start : (from : List ℤ) (at m : ℕ) (t : List Row) → length t ≤ set_rows → put_all (rows_at from (at + 0 * row_numbers) (m - 0)) (found t) ≡ joined (rows_at from at m) t
+put_all-start from at m t h = rw (add-zero, sub-zero) (joined-put_all (rows_at from at m) t h)

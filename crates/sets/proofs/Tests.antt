@@ -6,41 +6,41 @@ use mathlib.Core.List.{List, [], ◌∷◌}
 use lib.IntN.{ℤ, pos}
 use lib.Signed.{◌<ℤ◌}
 use Rattle.integers.specs.Lists.{All, In, here, there}
-use Rattle.integers.proofs.Tests.{not-both, and_left, and_right, or-true}
+use Rattle.integers.proofs.Tests.{not-both, and_left, and_right, or_true}
 use Rattle.integers.proofs.Lists.{all_in}
 use Rattle.rows.specs.declared.Row.{Row}
-use Rattle.rows.specs.Rows.{at, Holds, false-row, same_row}
-use Rattle.rows.proofs.Ordering.{same-row-is, same-row-itself}
+use Rattle.rows.specs.Rows.{at, Holds, false_row, same_row}
+use Rattle.rows.proofs.Ordering.{same_row-is, same_row_itself}
 use Rattle.rows.proofs.Dividing.{never}
-use Rattle.sets.specs.Sets.{stands-in, same_rows, any_false}
+use Rattle.sets.specs.Sets.{stands_in, same_rows, any_false}
 
-pub stands-in-is : (r : Row) (l : List Row) → stands-in r l ≡ true → In r l
-unfolding stands-in
-stands-in-is r [] e = not-both e
-stands-in-is r (s ∷ l) e = ⊎_elim (λ a. here (same-row-is r s a)) (λ b. there (stands-in-is r l b)) (or-true (same_row r s) (stands-in r l) e)
+pub stands_in-is : (r : Row) (l : List Row) → stands_in r l ≡ true → In r l
+unfolding stands_in
+stands_in-is r [] e = not-both e
+stands_in-is r (s ∷ l) e = ⊎_elim (λ a. here (same_row-is r s a)) (λ b. there (stands_in-is r l b)) (or_true (same_row r s) (stands_in r l) e)
 
 pub or_right : (a : Bool) {b : Bool} → b ≡ true → (a || b) ≡ true
 or_right true e = refl
 or_right false e = e
 
-pub in-stands-in : (r : Row) (l : List Row) → In r l → stands-in r l ≡ true
-unfolding stands-in
-in-stands-in r (s ∷ l) (here e) = rw (← e, same-row-itself r) refl
-in-stands-in r (s ∷ l) (there i) = or_right (same_row r s) (in-stands-in r l i)
+pub in_stands_in : (r : Row) (l : List Row) → In r l → stands_in r l ≡ true
+unfolding stands_in
+in_stands_in r (s ∷ l) (here e) = rw (← e, same_row_itself r) refl
+in_stands_in r (s ∷ l) (there i) = or_right (same_row r s) (in_stands_in r l i)
 
-pub same-rows-is : (l k : List Row) → same_rows l k ≡ true → l ≡ k
+pub same_rows-is : (l k : List Row) → same_rows l k ≡ true → l ≡ k
 unfolding same_rows
-same-rows-is [] [] e = refl
-same-rows-is [] (s ∷ k) e = not-both e
-same-rows-is (r ∷ l) [] e = not-both e
-same-rows-is (r ∷ l) (s ∷ k) e =
-    ap₂ {C = List Row} (λ a b. a ∷ b) (same-row-is r s (and_left (same_row r s) (same_rows l k) e)) (same-rows-is l k (and_right (same_row r s) (same_rows l k) e))
+same_rows-is [] [] e = refl
+same_rows-is [] (s ∷ k) e = not-both e
+same_rows-is (r ∷ l) [] e = not-both e
+same_rows-is (r ∷ l) (s ∷ k) e =
+    ap₂ {C = List Row} (λ a b. a ∷ b) (same_row-is r s (and_left (same_row r s) (same_rows l k) e)) (same_rows-is l k (and_right (same_row r s) (same_rows l k) e))
 
-pub same-rows-itself : (l : List Row) → same_rows l l ≡ true
+pub same_rows_itself : (l : List Row) → same_rows l l ≡ true
 unfolding same_rows
-same-rows-itself [] = refl
-same-rows-itself (r ∷ l) = rw (same-row-itself r) (same-rows-itself l)
+same_rows_itself [] = refl
+same_rows_itself (r ∷ l) = rw (same_row_itself r) (same_rows_itself l)
 
 -- rows with a false row among them hold at no point
-pub any-false-never : (p : List ℤ) → pos 0 <ℤ at p 0 → (l : List Row) → any_false l ≡ true → ¬ All (Holds p) l
-any-false-never p h l e a = never p h (all_in a (stands-in-is false-row l e))
+pub any_false-never : (p : List ℤ) → pos 0 <ℤ at p 0 → (l : List Row) → any_false l ≡ true → ¬ All (Holds p) l
+any_false-never p h l e a = never p h (all_in a (stands_in-is false_row l e))

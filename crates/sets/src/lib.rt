@@ -2,11 +2,11 @@
 // Every function is an inner step: the entries above lend stores that take any set, and keep sets in order.
 ghost use Rattle.std.specs.Prelude.{◌≡◌, ◌++◌, ◌+◌, ◌-◌, ◌*◌, ◌≤◌, ◌<◌, length, take, drop, nat_abs};
 ghost use Rattle.rows.specs.declared.Fate.TheVariants.{Kept};
-ghost use Rattle.rows.specs.Rows.{entry-count, row-numbers, set-rows, single, divided-down, row_at};
+ghost use Rattle.rows.specs.Rows.{entry_count, row_numbers, set_rows, single, divided_down, row_at};
 ghost use Rattle.sets.specs.declared.Outcome.TheVariants.{Found, Refused};
-ghost use Rattle.sets.specs.Outcomes.{refusal-number, outcome-number};
-ghost use Rattle.sets.specs.Sets.{insert, place_of, within-limit, joined, stands-in, same_rows, any_false, same_numbers};
-ghost use Rattle.sets.specs.Stores.{zeroed, rows_at, set-in, Stands, HoldsSet, counted, Left, next, progress, Ready};
+ghost use Rattle.sets.specs.Outcomes.{refusal_number, outcome_number};
+ghost use Rattle.sets.specs.Sets.{insert, place_of, within_limit, joined, stands_in, same_rows, any_false, same_numbers};
+ghost use Rattle.sets.specs.Stores.{zeroed, rows_at, set_in, Stands, HoldsSet, counted, Left, next, progress, Ready};
 
 use rows::{Fate, Order, Row, Set, Settled};
 
@@ -51,7 +51,7 @@ pub enum Place {
 impl Outcome {
     // The number that the rules give an outcome.
     pub fn number(self) -> u8
-        ensures { result ≡ outcome-number self }
+        ensures { result ≡ outcome_number self }
     {
         match self {
             Outcome::Found => 0,
@@ -62,7 +62,7 @@ impl Outcome {
 
 impl Refusal {
     fn number(self) -> u8
-        ensures { result ≡ refusal-number self }
+        ensures { result ≡ refusal_number self }
     {
         match self {
             Refusal::NoFrame => 1,
@@ -104,8 +104,8 @@ impl Joined {
 
 // Where the row at an offset of one store belongs in the set in another; by halves, since the rows stand in order.
 fn find(s: &[i32], n: usize, x: &[i32], at: usize) -> Place
-    requires { HoldsSet s.now n × (at + row-numbers ≤ length x.now) }
-    ensures { result ≡ place_of (row_at x.now at) (set-in s.now n) }
+    requires { HoldsSet s.now n × (at + row_numbers ≤ length x.now) }
+    ensures { result ≡ place_of (row_at x.now at) (set_in s.now n) }
 {
     let mut low: usize = 0;
     let mut high = n;
@@ -123,8 +123,8 @@ fn find(s: &[i32], n: usize, x: &[i32], at: usize) -> Place
 
 // The row at an offset, written once more behind itself.
 fn move_up(s: &mut [i32], at: usize)
-    requires { at + row-numbers + row-numbers ≤ length s.old }
-    ensures { s.new ≡ take (at + row-numbers) s.old ++ take row-numbers (drop at s.old) ++ drop (at + row-numbers + row-numbers) s.old }
+    requires { at + row_numbers + row_numbers ≤ length s.old }
+    ensures { s.new ≡ take (at + row_numbers) s.old ++ take row_numbers (drop at s.old) ++ drop (at + row_numbers + row_numbers) s.old }
 {
     for i in 0..Row::NUMBERS {
         s[at + Row::NUMBERS + i] = s[at + i];
@@ -133,8 +133,8 @@ fn move_up(s: &mut [i32], at: usize)
 
 // The rows from row k on move up by a row, the last of the n first.
 fn shift_up(s: &mut [i32], k: usize, n: usize)
-    requires { (k ≤ n) × (n * row-numbers + row-numbers ≤ length s.old) × (n ≤ set-rows) }
-    ensures { s.new ≡ take (k * row-numbers + row-numbers) s.old ++ take (n * row-numbers - k * row-numbers) (drop (k * row-numbers) s.old) ++ drop (n * row-numbers + row-numbers) s.old }
+    requires { (k ≤ n) × (n * row_numbers + row_numbers ≤ length s.old) × (n ≤ set_rows) }
+    ensures { s.new ≡ take (k * row_numbers + row_numbers) s.old ++ take (n * row_numbers - k * row_numbers) (drop (k * row_numbers) s.old) ++ drop (n * row_numbers + row_numbers) s.old }
 {
     let mut i = n;
     while k < i {
@@ -146,8 +146,8 @@ fn shift_up(s: &mut [i32], k: usize, n: usize)
 // The row at an offset of another store put where it belongs, unless it stands there. How many rows there are then; where it would be the
 // 129th it is not put, and the answer is 129.
 fn insert(s: &mut [i32], n: usize, x: &[i32], at: usize) -> usize
-    requires { HoldsSet s.old n × (at + row-numbers ≤ length x.now) }
-    ensures { Left (within-limit (insert (row_at x.now at) (set-in s.old n))) s.old s.new (counted result) }
+    requires { HoldsSet s.old n × (at + row_numbers ≤ length x.now) }
+    ensures { Left (within_limit (insert (row_at x.now at) (set_in s.old n))) s.old s.new (counted result) }
 {
     let place = find(s, n, x, at);
     match place {
@@ -175,7 +175,7 @@ fn counted(rows: usize) -> Joined
 
 // Inner step: a row that is divided down joins, from where it stands. Once the set is too large only 9 can still come.
 pub fn put_row(s: &mut [i32], c: Joined, x: &[i32], at: usize) -> Joined
-    requires { Ready s.old c × (at + row-numbers ≤ length x.now) }
+    requires { Ready s.old c × (at + row_numbers ≤ length x.now) }
     ensures { Left (next Kept (row_at x.now at) (progress s.old c)) s.old s.new result }
 {
     let outcome = c.outcome;
@@ -215,7 +215,7 @@ pub fn put(s: &mut [i32], c: Joined, x: Settled) -> Joined
 
 // Inner step: likewise, with the row at the front of another store.
 pub fn put_settled(s: &mut [i32], c: Joined, fate: Fate, x: &[i32]) -> Joined
-    requires { Ready s.old c × (row-numbers ≤ length x.now) }
+    requires { Ready s.old c × (row_numbers ≤ length x.now) }
     ensures { Left (next fate (row_at x.now 0) (progress s.old c)) s.old s.new result }
 {
     match fate {
@@ -227,8 +227,8 @@ pub fn put_settled(s: &mut [i32], c: Joined, fate: Fate, x: &[i32]) -> Joined
 
 // Inner step: a times a variable is ≤ 0. For a of 1 or -1 there is nothing to divide.
 pub fn put_single(s: &mut [i32], c: Joined, v: usize, a: i32) -> Joined
-    requires { Ready s.old c × (0 < v) × (v < entry-count) × (nat_abs a ≡ 1) }
-    ensures { Left (next (divided-down (single v a)).fate (divided-down (single v a)).row (progress s.old c)) s.old s.new result }
+    requires { Ready s.old c × (0 < v) × (v < entry_count) × (nat_abs a ≡ 1) }
+    ensures { Left (next (divided_down (single v a)).fate (divided_down (single v a)).row (progress s.old c)) s.old s.new result }
 {
     let mut x = [0i32; Row::NUMBERS];
     x[v] = a;
@@ -237,8 +237,8 @@ pub fn put_single(s: &mut [i32], c: Joined, v: usize, a: i32) -> Joined
 
 // Inner step: the row at an offset of another store joins, divided down.
 pub fn join_row(from: &[i32], at: usize, to: &mut [i32], c: Joined) -> Joined
-    requires { (at + row-numbers ≤ length from.now) × Ready to.old c }
-    ensures { Left (next (divided-down (row_at from.now at)).fate (divided-down (row_at from.now at)).row (progress to.old c)) to.old to.new result }
+    requires { (at + row_numbers ≤ length from.now) × Ready to.old c }
+    ensures { Left (next (divided_down (row_at from.now at)).fate (divided_down (row_at from.now at)).row (progress to.old c)) to.old to.new result }
 {
     let r = Row::read(from, at);
     if r.has_one() {
@@ -255,8 +255,8 @@ pub fn join_row(from: &[i32], at: usize, to: &mut [i32], c: Joined) -> Joined
 
 // Inner step: rows from an offset of one store join the set in another, each divided down; 9 over all of them, then 10.
 pub fn join(from: &[i32], at: usize, m: usize, to: &mut [i32], n: usize) -> Joined
-    requires { (at + m * row-numbers ≤ length from.now) × HoldsSet to.old n }
-    ensures { Left (joined (rows_at from.now at m) (set-in to.old n)) to.old to.new result }
+    requires { (at + m * row_numbers ≤ length from.now) × HoldsSet to.old n }
+    ensures { Left (joined (rows_at from.now at m) (set_in to.old n)) to.old to.new result }
 {
     let mut c = Joined::with(n);
     for i in 0..m {
@@ -268,7 +268,7 @@ pub fn join(from: &[i32], at: usize, m: usize, to: &mut [i32], n: usize) -> Join
 // Inner step: whether a row stands in a set. Seldom asked, so one row after the other; `insert` alone searches by halves.
 pub fn stands_in(s: &[i32], n: usize, r: Row) -> bool
     requires { HoldsSet s.now n }
-    ensures { result ≡ stands-in r (set-in s.now n) }
+    ensures { result ≡ stands_in r (set_in s.now n) }
 {
     for i in 0..n {
         if r.is_at(s, i * Row::NUMBERS) {
@@ -281,7 +281,7 @@ pub fn stands_in(s: &[i32], n: usize, r: Row) -> bool
 // Inner step: whether 1 ≤ 0 stands in a set. It belongs behind every row whose constant is below 1, so such a last row rules it out.
 pub fn has_false(s: &[i32], n: usize) -> bool
     requires { HoldsSet s.now n }
-    ensures { result ≡ any_false (set-in s.now n) }
+    ensures { result ≡ any_false (set_in s.now n) }
 {
     if n == 0 {
         return false;
@@ -294,8 +294,8 @@ pub fn has_false(s: &[i32], n: usize) -> bool
 
 // Whether a row's 17 numbers are the same in two places. There is no way out of the loop, so that the compiler takes them together.
 fn same_numbers(x: &[i32], a: usize, y: &[i32], b: usize) -> bool
-    requires { (a + row-numbers ≤ length x.now) × (b + row-numbers ≤ length y.now) }
-    ensures { result ≡ same_numbers (take row-numbers (drop a x.now)) (take row-numbers (drop b y.now)) }
+    requires { (a + row_numbers ≤ length x.now) × (b + row_numbers ≤ length y.now) }
+    ensures { result ≡ same_numbers (take row_numbers (drop a x.now)) (take row_numbers (drop b y.now)) }
 {
     let mut same = true;
     for i in 0..Row::NUMBERS {
@@ -331,8 +331,8 @@ pub fn copy(from: &[i32], a: usize, to: &mut [i32], b: usize, count: usize)
 
 // Inner step: every whole row from a row on becomes zeros; numbers beyond the last whole row are not touched.
 pub fn clear_from(s: &mut [i32], row: usize)
-    requires { row * row-numbers ≤ length s.old }
-    ensures { s.new ≡ take (row * row-numbers) s.old ++ drop (row * row-numbers) (zeroed s.old) }
+    requires { row * row_numbers ≤ length s.old }
+    ensures { s.new ≡ take (row * row_numbers) s.old ++ drop (row * row_numbers) (zeroed s.old) }
 {
     let end = s.len() / Row::NUMBERS * Row::NUMBERS;
     let mut i = row * Row::NUMBERS;

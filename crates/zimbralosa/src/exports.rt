@@ -1,7 +1,7 @@
 // The region and the removal under names that C and Rust programs link; the answer's numbers go to a lent store. A slice is passed as two
 // arguments, its pointer and its length.
 ghost use Rattle.std.specs.Prelude.{◌≡◌};
-ghost use Rattle.method.specs.Entry.{run-hex};
+ghost use Rattle.method.specs.Entry.{run_hex};
 ghost use Rattle.zimbralosa.specs.Entries.{lent};
 ghost use Rattle.zimbralosa.specs.Exports.{Counted, RegionCounted, bit, Told, RemovalTold};
 
@@ -36,7 +36,7 @@ pub extern "C" fn zimbralosa_region(
     budget: usize,
     counts: &mut [u64],
 ) -> u8
-    ensures { RegionCounted (run-hex budget input.now (lent first.old second.old rows.old res.old roll.old)) counts.old first.new second.new rows.new res.new roll.new counts.new result }
+    ensures { RegionCounted (run_hex budget input.now (lent first.old second.old rows.old res.old roll.old)) counts.old first.new second.new rows.new res.new roll.new counts.new result }
 {
     let a = super::from_hex(input, first, second, rows, res, roll, budget);
     put_counts(a, counts)

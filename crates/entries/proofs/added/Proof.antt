@@ -8,7 +8,7 @@ use lib.IntN.{pos, ◌+ℤ◌}
 use mir.Syntax.{w32}
 use mir.Val.{SFits}
 use mir.Facts.{to_z-of_z}
-use Rattle.integers.proofs.Bounds.{back, fits-abs, natAbs-add}
+use Rattle.integers.proofs.Bounds.{back, fits_abs, natAbs_add}
 use Rattle.integers.proofs.Loops.{front, front-none, front-more}
 use Rattle.entries.proofs.Fits.{front-added}
 use Rattle.entries.proofs.added.Statement.{statement}
@@ -21,7 +21,7 @@ abbrev decreases-loop : tie.decreases-loop
 decreases-loop x y to₀ i₀ to i = 16 - i
 
 sum : (s : tie.Start invariant-loop decreases-loop) (i : ℕ) → SFits w32 (get_or s.args.t1 i (pos 0) +ℤ get_or s.args.t2 i (pos 0))
-sum s i = let x = s.requires.0 i in let y = s.requires.1 i in fits-abs _ (omega (arith, natAbs-add (get_or s.args.t1 i (pos 0)) (get_or s.args.t2 i (pos 0))))
+sum s i = let x = s.requires.0 i in let y = s.requires.1 i in fits_abs _ (omega (arith, natAbs_add (get_or s.args.t1 i (pos 0)) (get_or s.args.t2 i (pos 0))))
 
 add-to : tie.Need-overflow-add-to invariant-loop decreases-loop
 add-to c =
@@ -50,8 +50,8 @@ returns c =
     let e : c.before.loop.i ≡ length x = omega arith in
     rw (c.before.loop.invariant.1, e) (front-added x y (replicate 16 (pos 0)) (sym a) (a ∙ sym b))
 
-pub added-spec : {M : Type 1} → statement M
-added-spec =
+pub added_spec : {M : Type 1} → statement M
+added_spec =
     tie.close
     (tie.spec invariant-loop decreases-loop
     (λ c. (search rules, front-none _ _))

@@ -9,16 +9,16 @@ use lib.Dec.{leb}
 use lib.ListN.{length, get_or, drop}
 use lib.IntN.{ℤ, pos, nat_abs}
 use mir.Syntax.{w64}
-use Rattle.integers.specs.Limits.{entry-limit}
+use Rattle.integers.specs.Limits.{entry_limit}
 use Rattle.integers.specs.Lists.{every}
 use Rattle.integers.proofs.Bounds.{back}
-use Rattle.integers.proofs.Loops.{every-stops, every-turn, every-done}
+use Rattle.integers.proofs.Loops.{every_stops, every_turn, every-done}
 use Rattle.entries.specs.Entries.{all_small}
 use Rattle.entries.proofs.all_small.Statement.{statement}
 use Rattle.entries.proofs.all_small.Tie as tie
 
 abbrev small : ℤ → Bool
-small z = leb (nat_abs z) entry-limit
+small z = leb (nat_abs z) entry_limit
 
 abbrev invariant-loop : tie.invariant-loop
 invariant-loop l i₀ i = (i ≤ 16) × (every small (drop i l) ≡ every small l)
@@ -40,14 +40,14 @@ returns : tie.Need-returns invariant-loop decreases-loop
 unfolding all_small
 returns c =
     let s = c.before.before.before.before in
-    every-stops small s.before.args.t1 s.loop.i (pos 0) (omega (arith, long s.before))
+    every_stops small s.before.args.t1 s.loop.i (pos 0) (omega (arith, long s.before))
     (lt-leb _ _ (rw (read c.before) at c.if1.true)) ∙ s.loop.invariant.1
 
 loop-again : tie.Need-loop-preserved invariant-loop decreases-loop
 loop-again c =
     let s = c.before.before.before.before in (
       search rules,
-      every-turn small s.before.args.t1 s.loop.i (pos 0) (omega (arith, long s.before))
+      every_turn small s.before.args.t1 s.loop.i (pos 0) (omega (arith, long s.before))
           (le-leb _ _ (rw (read c.before) at c.if1.false)) ∙ s.loop.invariant.1,
     )
 
@@ -57,8 +57,8 @@ returns-2 c =
     let s = c.before in
     every-done small s.before.args.t1 s.loop.i (pos 0) (omega (arith, long s.before)) ∙ s.loop.invariant.1
 
-pub all-small-spec : {M : Type 1} → statement M
-all-small-spec =
+pub all_small_spec : {M : Type 1} → statement M
+all_small_spec =
     tie.close
     (tie.spec invariant-loop decreases-loop
     (λ c. (search rules, refl))

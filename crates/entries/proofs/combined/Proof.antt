@@ -54,8 +54,8 @@ returns c =
     rw (c.before.loop.invariant.1, e, to_z-of_z s.ranges.a, to_z-of_z s.ranges.b)
     (front-combined x y s.args.a s.args.b (replicate 16 (pos 0)) (sym a) (a ∙ sym b))
 
-pub combined-spec : {M : Type 1} → statement M
-combined-spec =
+pub combined_spec : {M : Type 1} → statement M
+combined_spec =
     tie.close
     (tie.spec invariant-loop decreases-loop
     (λ c. (search rules, front-none _ _))

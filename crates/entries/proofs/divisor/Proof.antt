@@ -10,5 +10,5 @@ returns c = divisor-one c.before.before.args.l c.before.gcd-of-all.result c.befo
 returns-2 : tie.Need-returns-2
 returns-2 c = divisor-same c.before.before.args.l c.before.gcd-of-all.result c.before.gcd-of-all.ensures c.if1.false
 
-pub divisor-spec : {M : Type 1} → statement M
-divisor-spec = tie.close (tie.spec (λ c κs. search rules) returns returns-2)
+pub divisor_spec : {M : Type 1} → statement M
+divisor_spec = tie.close (tie.spec (λ c κs. search rules) returns returns-2)

@@ -10,28 +10,28 @@ use lib.IntN.{ℤ, pos}
 use mir.Syntax.{w32}
 use Rattle.integers.specs.Signs.{is_zero}
 use Rattle.integers.proofs.Bounds.{back, bits-zero, zero_bits}
-use Rattle.integers.proofs.Loops.{drop-turn, drop-done}
-use Rattle.entries.specs.Entries.{at, first-nonzero}
+use Rattle.integers.proofs.Loops.{drop_turn, drop-done}
+use Rattle.entries.specs.Entries.{at, first_nonzero}
 use Rattle.entries.proofs.first_variable.Statement.{statement}
 use Rattle.entries.proofs.first_variable.Tie as tie
 
 abbrev invariant-loop : tie.invariant-loop
-invariant-loop l i₀ i = (i ≤ 16) × (first-nonzero (drop i l) ≡ first-nonzero (drop 1 l))
+invariant-loop l i₀ i = (i ≤ 16) × (first_nonzero (drop i l) ≡ first_nonzero (drop 1 l))
 
 abbrev decreases-loop : tie.decreases-loop
 decreases-loop l i₀ i = 16 - i
 
 module _ (l : List ℤ) (i : ℕ) where
-  stops : i < length l → is_zero (at l i) ≡ false → at l i ≡ first-nonzero (drop i l)
-  unfolding first-nonzero
-  stops h e = rw (drop-turn l i (pos 0) h, e)
+  stops : i < length l → is_zero (at l i) ≡ false → at l i ≡ first_nonzero (drop i l)
+  unfolding first_nonzero
+  stops h e = rw (drop_turn l i (pos 0) h, e)
 
-  turn : i < length l → is_zero (at l i) ≡ true → first-nonzero (drop (i + 1) l) ≡ first-nonzero (drop i l)
-  unfolding first-nonzero
-  turn h e = rw (drop-turn l i (pos 0) h, e)
+  turn : i < length l → is_zero (at l i) ≡ true → first_nonzero (drop (i + 1) l) ≡ first_nonzero (drop i l)
+  unfolding first_nonzero
+  turn h e = rw (drop_turn l i (pos 0) h, e)
 
-  done : length l ≤ i → pos 0 ≡ first-nonzero (drop i l)
-  unfolding first-nonzero
+  done : length l ≤ i → pos 0 ≡ first_nonzero (drop i l)
+  unfolding first_nonzero
   done h = rw (drop-done l i h)
 
 long : (c : tie.Start invariant-loop decreases-loop) → length c.args.t1 ≡ 16
@@ -57,8 +57,8 @@ returns-2 c =
     let s = c.before in
     done s.before.args.t1 s.loop.i (omega (arith, long s.before)) ∙ s.loop.invariant.1
 
-pub first-variable-spec : {M : Type 1} → statement M
-first-variable-spec =
+pub first_variable_spec : {M : Type 1} → statement M
+first_variable_spec =
     tie.close
     (tie.spec invariant-loop decreases-loop
     (λ c. (search rules, refl))

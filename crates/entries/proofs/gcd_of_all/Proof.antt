@@ -9,19 +9,19 @@ use lib.IntN.{ℤ, pos, nat_abs}
 use mir.Syntax.{w64}
 use Rattle.integers.specs.Gcd.{gcd}
 use Rattle.integers.proofs.Bounds.{back}
-use Rattle.entries.specs.Entries.{gcd-from}
-use Rattle.integers.proofs.Loops.{drop-turn, drop-done}
+use Rattle.entries.specs.Entries.{gcd_from}
+use Rattle.integers.proofs.Loops.{drop_turn, drop-done}
 use Rattle.entries.proofs.gcd_of_all.Statement.{statement}
 use Rattle.entries.proofs.gcd_of_all.Tie as tie
 
 abbrev invariant-loop : tie.invariant-loop
-invariant-loop l g₀ i₀ g i = (i ≤ 16) × (gcd-from g (drop i l) ≡ gcd-from 0 l)
+invariant-loop l g₀ i₀ g i = (i ≤ 16) × (gcd_from g (drop i l) ≡ gcd_from 0 l)
 
 abbrev decreases-loop : tie.decreases-loop
 decreases-loop l g₀ i₀ g i = 16 - i
 
-turn : (l : List ℤ) (i g r : ℕ) → i < length l → r ≡ gcd g (nat_abs (get_or l i (pos 0))) → gcd-from r (drop (i + 1) l) ≡ gcd-from g (drop i l)
-turn l i g r h e = rw (drop-turn l i (pos 0) h, e)
+turn : (l : List ℤ) (i g r : ℕ) → i < length l → r ≡ gcd g (nat_abs (get_or l i (pos 0))) → gcd_from r (drop (i + 1) l) ≡ gcd_from g (drop i l)
+turn l i g r h e = rw (drop_turn l i (pos 0) h, e)
 
 loop-again : tie.Need-loop-preserved invariant-loop decreases-loop
 loop-again c =
@@ -39,8 +39,8 @@ returns c =
     let a : length l ≡ 16 = search rules in
     rw (drop-done l c.before.loop.i (omega arith)) at c.before.loop.invariant.1
 
-pub gcd-of-all-spec : {M : Type 1} → statement M
-gcd-of-all-spec =
+pub gcd_of_all_spec : {M : Type 1} → statement M
+gcd_of_all_spec =
     tie.close
     (tie.spec invariant-loop decreases-loop
     (λ c. (search rules, refl))

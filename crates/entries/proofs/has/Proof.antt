@@ -14,7 +14,7 @@ use mir.Syntax.{w32}
 use mir.Val.{to_z, of_z}
 use mir.Facts.{to_z-of_z}
 use Rattle.integers.proofs.Bounds.{back}
-use Rattle.integers.proofs.Loops.{drop-turn, drop-done}
+use Rattle.integers.proofs.Loops.{drop_turn, drop-done}
 use Rattle.integers.proofs.Tests.{same_test, not-both}
 use Rattle.entries.specs.Entries.{at, same, has}
 use Rattle.entries.proofs.has.Statement.{statement}
@@ -47,7 +47,7 @@ tested z x h k =
 module _ (x : ℤ) (l : List ℤ) (i : ℕ) (found : Bool) where
   turn : (a : Bool) → i < length l → a ≡ same (at l i) x → ((found || a) || has x (drop (i + 1) l)) ≡ (found || has x (drop i l))
   unfolding has
-  turn a h e = rw (drop-turn l i (pos 0) h, ← e) (or_assoc found a (has x (drop (i + 1) l)))
+  turn a h e = rw (drop_turn l i (pos 0) h, ← e) (or_assoc found a (has x (drop (i + 1) l)))
 
   done : length l ≤ i → found ≡ (found || has x (drop i l))
   unfolding has
@@ -72,8 +72,8 @@ returns c =
     rw (to_z-of_z s.before.ranges.x) at
     (done (to_z w32 (of_z w32 s.before.args.x)) s.before.args.t1 s.loop.i s.loop.found (omega (arith, long s.before)) ∙ s.loop.invariant.1)
 
-pub has-spec : {M : Type 1} → statement M
-has-spec =
+pub has_spec : {M : Type 1} → statement M
+has_spec =
     tie.close
     (tie.spec invariant-loop decreases-loop
     (λ c. (search rules, refl))

@@ -5,7 +5,7 @@ use mathlib.Core.List.{List, [], ◌∷◌}
 use borrow.Author.Rules.{rules}
 use lib.Dec.{eqb, eqb-suc-suc}
 use lib.IntN.{ℤ, pos, negsuc, nat_abs}
-use Rattle.entries.specs.Entries.{same, has, has-unit}
+use Rattle.entries.specs.Entries.{same, has, has_unit}
 use Rattle.entries.proofs.has_unit.Statement.{statement}
 use Rattle.entries.proofs.has_unit.Tie as tie
 
@@ -20,13 +20,13 @@ one : (z : ℤ) → (same z (pos 1) || same z (negsuc 0)) ≡ eqb (nat_abs z) 1
 one (pos n) = or-false (eqb n 1)
 one (negsuc n) = sym (eqb-suc-suc n 0)
 
-either : (l : List ℤ) → (has (pos 1) l || has (negsuc 0) l) ≡ has-unit l
-unfolding has has-unit
+either : (l : List ℤ) → (has (pos 1) l || has (negsuc 0) l) ≡ has_unit l
+unfolding has has_unit
 either [] = refl
 either (z ∷ l) = or-mixed (same z (pos 1)) (has (pos 1) l) (same z (negsuc 0)) (has (negsuc 0) l) ∙ rw (one z, either l)
 
 returns : tie.Need-returns
 returns c = rw (c.before.has.ensures, c.has2.ensures) (either c.before.before.args.l)
 
-pub has-unit-spec : {M : Type 1} → statement M
-has-unit-spec = tie.close (tie.spec (λ c κs. search rules) (λ c κs. search rules) returns)
+pub has_unit_spec : {M : Type 1} → statement M
+has_unit_spec = tie.close (tie.spec (λ c κs. search rules) (λ c κs. search rules) returns)

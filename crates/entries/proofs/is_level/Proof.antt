@@ -12,9 +12,9 @@ use mir.Val.{to_z, of_z}
 use mir.Facts.{to_z-of_z}
 use Rattle.integers.specs.Lists.{every}
 use Rattle.integers.specs.Signs.{is_zero}
-use Rattle.integers.proofs.Bounds.{fits-abs, natAbs-neg, zero_test, either-sign}
-use Rattle.integers.proofs.Loops.{flag-turn, flag-done}
-use Rattle.entries.specs.Entries.{is-level}
+use Rattle.integers.proofs.Bounds.{fits_abs, natAbs_neg, zero_test, either-sign}
+use Rattle.integers.proofs.Loops.{flag_turn, flag-done}
+use Rattle.entries.specs.Entries.{is_level}
 use Rattle.entries.proofs.is_level.Statement.{statement}
 use Rattle.entries.proofs.is_level.Tie as tie
 
@@ -38,7 +38,7 @@ long : (c : tie.Start invariant-loop decreases-loop) → length c.args.t1 ≡ 16
 long c = search rules
 
 sub-y : tie.Need-overflow-sub-y invariant-loop decreases-loop
-sub-y c = let x = c.args.x in rw (to_z-of_z c.ranges.x, +ℤ_idl (neg_ℤ x)) (fits-abs (neg_ℤ x) (rw (natAbs-neg x) c.requires))
+sub-y c = let x = c.args.x in rw (to_z-of_z c.ranges.x, +ℤ_idl (neg_ℤ x)) (fits_abs (neg_ℤ x) (rw (natAbs_neg x) c.requires))
 
 loop-again : tie.Need-loop-preserved invariant-loop decreases-loop
 loop-again c =
@@ -48,19 +48,19 @@ loop-again c =
     let z = get_or l s.loop.i (pos 0) in
     let tested = ap₂ {C = Bool} (λ a b. a || b) (sym (zero_test w32 z c.z.given)) (sym (either-sign w32 z x c.z.given s.before.requires)) ∙ three (eqb (of_z w32 z) 0) (eqb (of_z w32 z) (of_z w32 x)) (eqb (of_z w32 z) (of_z w32 (neg_ℤ x))) in (
       search rules,
-      rw (to_z-of_z s.before.ranges.x, +ℤ_idl (neg_ℤ x)) (flag-turn (level x) l s.loop.i (pos 0) s.loop.other _ (omega (arith, long s.before)) tested)
+      rw (to_z-of_z s.before.ranges.x, +ℤ_idl (neg_ℤ x)) (flag_turn (level x) l s.loop.i (pos 0) s.loop.other _ (omega (arith, long s.before)) tested)
           ∙ s.loop.invariant.1,
     )
 
 returns : tie.Need-returns invariant-loop decreases-loop
-unfolding is-level
+unfolding is_level
 returns c =
     let s = c.before in
     rw (to_z-of_z s.before.ranges.x) at
     (flag-done (level (to_z w32 (of_z w32 s.before.args.x))) s.before.args.t1 s.loop.i (pos 0) s.loop.other (omega (arith, long s.before)) ∙ s.loop.invariant.1)
 
-pub is-level-spec : {M : Type 1} → statement M
-is-level-spec =
+pub is_level_spec : {M : Type 1} → statement M
+is_level_spec =
     tie.close
     (tie.spec invariant-loop decreases-loop
     sub-y

@@ -9,8 +9,8 @@ use mir.Syntax.{w64}
 use Rattle.integers.specs.Lists.{every}
 use Rattle.integers.specs.Signs.{is_zero}
 use Rattle.integers.proofs.Bounds.{bits-zero, zero_bits}
-use Rattle.integers.proofs.Loops.{every-stops, every-turn, every-done}
-use Rattle.entries.specs.Entries.{all-zero}
+use Rattle.integers.proofs.Loops.{every_stops, every_turn, every-done}
+use Rattle.entries.specs.Entries.{all_zero}
 use Rattle.entries.proofs.no_variables.Statement.{statement}
 use Rattle.entries.proofs.no_variables.Tie as tie
 
@@ -24,29 +24,29 @@ long : (c : tie.Start invariant-loop decreases-loop) → length c.args.t1 ≡ 16
 long c = search rules
 
 returns : tie.Need-returns invariant-loop decreases-loop
-unfolding all-zero
+unfolding all_zero
 returns c =
     let s = c.before.before.before in
     let l = s.before.args.t1 in
-    every-stops is_zero l s.loop.i (pos 0) (omega (arith, long s.before)) (zero_bits w64 (get_or l s.loop.i (pos 0)) c.if1.true) ∙ s.loop.invariant.1
+    every_stops is_zero l s.loop.i (pos 0) (omega (arith, long s.before)) (zero_bits w64 (get_or l s.loop.i (pos 0)) c.if1.true) ∙ s.loop.invariant.1
 
 loop-again : tie.Need-loop-preserved invariant-loop decreases-loop
 loop-again c =
     let s = c.before.before.before in
     let l = s.before.args.t1 in (
       search rules,
-      every-turn is_zero l s.loop.i (pos 0) (omega (arith, long s.before))
+      every_turn is_zero l s.loop.i (pos 0) (omega (arith, long s.before))
           (bits-zero w64 (get_or l s.loop.i (pos 0)) c.before.if12.given c.if1.false) ∙ s.loop.invariant.1,
     )
 
 returns-2 : tie.Need-returns-2 invariant-loop decreases-loop
-unfolding all-zero
+unfolding all_zero
 returns-2 c =
     let s = c.before in
     every-done is_zero s.before.args.t1 s.loop.i (pos 0) (omega (arith, long s.before)) ∙ s.loop.invariant.1
 
-pub no-variables-spec : {M : Type 1} → statement M
-no-variables-spec =
+pub no_variables_spec : {M : Type 1} → statement M
+no_variables_spec =
     tie.close
     (tie.spec invariant-loop decreases-loop
     (λ c. (search rules, refl))

@@ -33,8 +33,8 @@ returns c =
     let e : c.before.loop.i ≡ length l = omega arith in
     rw (c.before.loop.invariant.1, e) (front-map (λ z. quot_z z (pos c.before.before.args.d)) (pos 0) l (replicate 16 (pos 0)) (sym a))
 
-pub quotients-spec : {M : Type 1} → statement M
-quotients-spec =
+pub quotients_spec : {M : Type 1} → statement M
+quotients_spec =
     tie.close
     (tie.spec invariant-loop decreases-loop
     (λ c. (search rules, front-none _ _))

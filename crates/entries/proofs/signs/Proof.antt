@@ -34,8 +34,8 @@ returns c =
     let e : c.before.loop.i ≡ length l = omega arith in
     rw (c.before.loop.invariant.1, e) (front-map sign (pos 0) l (replicate 16 (pos 0)) (sym a))
 
-pub signs-spec : {M : Type 1} → statement M
-signs-spec =
+pub signs_spec : {M : Type 1} → statement M
+signs_spec =
     tie.close
     (tie.spec invariant-loop decreases-loop
     (λ c. (search rules, front-none _ _))

@@ -32,8 +32,8 @@ returns c =
     let e : c.before.loop.i ≡ length l = omega arith in
     rw (c.before.loop.invariant.1, e) (front_same (pos 0) l (replicate 16 (pos 0)) (sym a))
 
-pub widened-spec : {M : Type 1} → statement M
-widened-spec =
+pub widened_spec : {M : Type 1} → statement M
+widened_spec =
     tie.close
     (tie.spec invariant-loop decreases-loop
     (λ c. (search rules, front-none _ _))

@@ -8,17 +8,17 @@ use lib.Dec.{leb}
 use lib.ListN.{length, get_or, drop}
 use lib.IntN.{ℤ, pos, nat_abs}
 use mir.Syntax.{w32}
-use Rattle.integers.specs.Limits.{entry-limit}
+use Rattle.integers.specs.Limits.{entry_limit}
 use Rattle.integers.specs.Lists.{every}
 use Rattle.integers.proofs.Bounds.{back}
-use Rattle.integers.proofs.Loops.{flag-turn, flag-done}
+use Rattle.integers.proofs.Loops.{flag_turn, flag-done}
 use Rattle.entries.specs.Entries.{all_small}
 use Rattle.entries.proofs.Fits.{one-small}
 use Rattle.entries.proofs.within_limit.Statement.{statement}
 use Rattle.entries.proofs.within_limit.Tie as tie
 
 abbrev small : ℤ → Bool
-small z = leb (nat_abs z) entry-limit
+small z = leb (nat_abs z) entry_limit
 
 abbrev invariant-loop : tie.invariant-loop
 invariant-loop l beyond₀ i₀ beyond i = (i ≤ 16) × ((not beyond && every small (drop i l)) ≡ every small l)
@@ -35,7 +35,7 @@ loop-again c =
     let l = s.before.args.t1 in
     let z = get_or l s.loop.i (pos 0) in (
       search rules,
-      rw (back w32 z c.x.given) (flag-turn small l s.loop.i (pos 0) s.loop.beyond _ (omega (arith, long s.before)) (one-small z)) ∙ s.loop.invariant.1,
+      rw (back w32 z c.x.given) (flag_turn small l s.loop.i (pos 0) s.loop.beyond _ (omega (arith, long s.before)) (one-small z)) ∙ s.loop.invariant.1,
     )
 
 returns : tie.Need-returns invariant-loop decreases-loop
@@ -44,8 +44,8 @@ returns c =
     let s = c.before in
     flag-done small s.before.args.t1 s.loop.i (pos 0) s.loop.beyond (omega (arith, long s.before)) ∙ s.loop.invariant.1
 
-pub within-limit-spec : {M : Type 1} → statement M
-within-limit-spec =
+pub within_limit_spec : {M : Type 1} → statement M
+within_limit_spec =
     tie.close
     (tie.spec invariant-loop decreases-loop
     (λ c. (search rules, refl))

@@ -6,12 +6,12 @@ use Rattle.frames.proofs.finished.Statement.{statement}
 use Rattle.frames.proofs.finished.Tie as tie
 
 returns : tie.Need-returns
-returns c = let d = c.before.before in rw (sym d.is-complete.ensures ∙ not-true d.is-complete.result c.before.if1.true) c.refused.ensures
+returns c = let d = c.before.before in rw (sym d.is_complete.ensures ∙ not-true d.is_complete.result c.before.if1.true) c.refused.ensures
 
 returns-2 : tie.Need-returns-2
-returns-2 c = let d = c.before.before.before in rw (sym d.is-complete.ensures ∙ not-false d.is-complete.result c.before.before.if1.false)
+returns-2 c = let d = c.before.before.before in rw (sym d.is_complete.ensures ∙ not-false d.is_complete.result c.before.before.if1.false)
 
-pub finished-spec : {M : Type 1} → statement M
-finished-spec = tie.close (tie.spec
+pub finished_spec : {M : Type 1} → statement M
+finished_spec = tie.close (tie.spec
     (λ c κs. search rules)
     (λ c κs. search rules) returns returns-2)

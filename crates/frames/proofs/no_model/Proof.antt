@@ -6,10 +6,10 @@ use Rattle.frames.proofs.no_model.Tie as tie
 
 returns : tie.Need-returns
 unfolding tables
-returns c = rw (c.before.before.before.no_Header.ensures, c.before.before.no-reference.ensures, c.before.no-transitions.ensures, c.no_rows.ensures)
+returns c = rw (c.before.before.before.no_Header.ensures, c.before.before.no-reference.ensures, c.before.no_transitions.ensures, c.no_rows.ensures)
 
-pub no-model-spec : {M : Type 1} → statement M
-no-model-spec =
+pub no_model_spec : {M : Type 1} → statement M
+no_model_spec =
     tie.close (tie.spec
     (λ c κs. search rules)
     (λ c κs. search rules)

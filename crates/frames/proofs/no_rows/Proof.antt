@@ -8,6 +8,6 @@ returns : tie.Need-returns
 unfolding padded
 returns c = rw c.no_row.ensures
 
-pub no-rows-spec : {M : Type 1} → statement M
-no-rows-spec = tie.close (tie.spec
+pub no_rows_spec : {M : Type 1} → statement M
+no_rows_spec = tie.close (tie.spec
     (λ c κs. search rules) returns)

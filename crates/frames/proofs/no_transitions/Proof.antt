@@ -6,8 +6,8 @@ use Rattle.frames.proofs.no_transitions.Tie as tie
 
 returns : tie.Need-returns
 unfolding padded
-returns c = rw c.no-transition.ensures
+returns c = rw c.no_transition.ensures
 
-pub no-transitions-spec : {M : Type 1} → statement M
-no-transitions-spec = tie.close (tie.spec
+pub no_transitions_spec : {M : Type 1} → statement M
+no_transitions_spec = tie.close (tie.spec
     (λ c κs. search rules) returns)

@@ -10,14 +10,14 @@ use borrow.Author.Tests.{not-true, not-false}
 use lib.ListN.{drop, length-drop}
 use Rattle.sets.specs.Outcomes.{refused}
 use Rattle.frames.specs.declared.Frame.{Frame}
-use Rattle.frames.specs.Hex.{first-bytes}
+use Rattle.frames.specs.Hex.{first_bytes}
 use Rattle.frames.specs.Reading.{nothing, frame, read}
 use Rattle.frames.specs.Steps.{Told}
-use Rattle.frames.proofs.Splitting.{remaining, only-no-frame, front_length}
-use Rattle.frames.proofs.Taking.{LineIs, good-line, bad-line, TakenAs, taken-frame, refused-frame}
-use Rattle.frames.specs.Steps.{reading-of}
+use Rattle.frames.proofs.Splitting.{remaining, only_no_frame, front_length}
+use Rattle.frames.proofs.Taking.{LineIs, good_line, bad_line, TakenAs, taken_frame, refused-frame}
+use Rattle.frames.specs.Steps.{reading_of}
 use lib.ListN.{length}
-use Rattle.frames.proofs.Reaching.{Reached, reached-none, reached-few, reached-transition, reached-row, reached-other, slot, ends-here, ends-broken, ends-refused, tables-are, read_short, read-long}
+use Rattle.frames.proofs.Reaching.{Reached, reached_none, reached_few, reached_transition, reached_row, reached_other, slot, ends-here, ends-broken, ends-refused, tables_are, read_short, read-long}
 use Rattle.frames.proofs.read.Statement.{statement}
 use Rattle.frames.proofs.read.Tie as tie
 
@@ -41,7 +41,7 @@ module _ (l : tie.At-loop invariant-loop decreases-loop) where
   all = read_short input l.loop.inv.2
 
 returns : tie.Need-returns invariant-loop decreases-loop
-returns c = c.refused.ensures ∙ sym (ap reading-of (read-long c.before.before.before.args.input.now c.before.if1.true))
+returns c = c.refused.ensures ∙ sym (ap reading_of (read-long c.before.before.before.args.input.now c.before.if1.true))
 
 loop-holds : tie.Need-loop-init invariant-loop decreases-loop
 loop-holds c =
@@ -49,7 +49,7 @@ loop-holds c =
       search rules,
       c.before.no_bytes.ensures,
       omega arith,
-      rw (c.nothing.ensures, c.before.before.no_rows.ensures, c.before.before.before.no-transitions.ensures) (reached-none i),
+      rw (c.nothing.ensures, c.before.before.no_rows.ensures, c.before.before.before.no_transitions.ensures) (reached_none i),
     )
 
 -- a line of digits, or none
@@ -63,7 +63,7 @@ module _ (c : tie.After-decode invariant-loop decreases-loop) where
   no_line : c.decode.result.good ≡ false → read (input at-line) ≡ refused NoFrame
   no_line e =
       all at-line ∙ ends-broken (input at-line) _ _ _ _ (reached at-line) not-at-end
-      (bad-line (first-bytes (rest at-line)) _ c.decode.result (only-no-frame (rest at-line)) c.decode.ensures.1 e)
+      (bad_line (first_bytes (rest at-line)) _ c.decode.result (only_no_frame (rest at-line)) c.decode.ensures.1 e)
 
 -- the line, and the frame that it is
 module _ (c : tie.After-frame invariant-loop decreases-loop) where
@@ -76,8 +76,8 @@ module _ (c : tie.After-frame invariant-loop decreases-loop) where
   abbrev bytes : List ℕ
   bytes = decoded.decode.last.1.1.0
 
-  a-line : LineIs (first-bytes (rest at-frame)) bytes decoded.decode.result
-  a-line = good-line (first-bytes (rest at-frame)) bytes decoded.decode.result decoded.decode.ensures.1 (not-false decoded.decode.result.good c.before.before.if2.false)
+  a-line : LineIs (first_bytes (rest at-frame)) bytes decoded.decode.result
+  a-line = good_line (first_bytes (rest at-frame)) bytes decoded.decode.result decoded.decode.ensures.1 (not-false decoded.decode.result.good c.before.before.if2.false)
 
   next-within : at-frame.loop.at + (decoded.decode.result.count * 2 + 1) ≤ length (input at-frame)
   next-within = omega (arith, front_length (rest at-frame) a-line.bytes a-line.is, a-line.count, length-drop at-frame.loop.at (input at-frame), not-at-end decoded)
@@ -97,7 +97,7 @@ module _ (c : tie.After-enum-told invariant-loop decreases-loop) where
   f = framed.frame.result
 
   was-taken : TakenAs f (reached here).seen (frame (reached here).seen (a-line framed).bytes)
-  was-taken = taken-frame f (reached here).seen _ (told framed) c.enum_told.given.1
+  was-taken = taken_frame f (reached here).seen _ (told framed) c.enum_told.given.1
 
   slots : (f.kind ≡ 4 → here.loop.p.transitions < 64) × (f.kind ≡ 3 → here.loop.p.rows < 128)
   slots = slot (input here) _ _ _ _ (reached here) (not-at-end (decoded framed)) (a-line framed).bytes (a-line framed).is was-taken.seen f was-taken.is was-taken.met
@@ -105,7 +105,7 @@ module _ (c : tie.After-enum-told invariant-loop decreases-loop) where
 frame-requires : tie.Need-frame-requires invariant-loop decreases-loop
 frame-requires c κs =
     let d = c.before.before.before.before in
-    ((reached-few _ _ _ _ _ (reached (at-line d))).0, d.decode.ensures.0)
+    ((reached_few _ _ _ _ _ (reached (at-line d))).0, d.decode.ensures.0)
 
 mul_at : tie.Need-overflow-mul-at invariant-loop decreases-loop
 mul_at c = let h = next-within (framed c.before) in let k = (here c.before).loop.inv.2 in omega arith
@@ -117,7 +117,7 @@ add-at-2 : tie.Need-overflow-add-at-2 invariant-loop decreases-loop
 add-at-2 c = let h = next-within (framed c.before) in let k = (here c.before).loop.inv.2 in omega arith
 
 after-requires : tie.Need-after-requires invariant-loop decreases-loop
-after-requires c κs = let r = reached-few _ _ _ _ _ (reached (here c.before)) in (r.1, r.2)
+after-requires c κs = let r = reached_few _ _ _ _ _ (reached (here c.before)) in (r.1, r.2)
 
 mul-transitions : tie.Need-overflow-mul-transitions invariant-loop decreases-loop
 mul-transitions c = let h = (slots c.before.before.before.before).0 c.before.if3.true in omega arith
@@ -141,7 +141,7 @@ loop-less-3 : tie.Need-loop-smaller-3 invariant-loop decreases-loop
 loop-less-3 c = let h = next-within (framed c.before.before.before.before) in omega arith
 
 returns-2 : tie.Need-returns-2 invariant-loop decreases-loop
-returns-2 c = let d = c.before.before.before.before in c.refused2.ensures ∙ sym (ap reading-of (no_line d (not-true d.decode.result.good c.before.if2.true)))
+returns-2 c = let d = c.before.before.before.before in c.refused2.ensures ∙ sym (ap reading_of (no_line d (not-true d.decode.result.good c.before.if2.true)))
 
 returns-3 : tie.Need-returns-3 invariant-loop decreases-loop
 returns-3 c =
@@ -151,28 +151,28 @@ returns-3 c =
     let g = k.o.given in
     let e = refused-frame fr.frame.result (reached l).seen _ g.0.0 (told fr) g.1 in
     c.refused3.ensures ∙
-    sym (ap reading-of (all l ∙ ends-refused (input l) _ _ _ _ (reached l) (not-at-end (decoded fr)) (a-line fr).bytes (a-line fr).is g.0.0 e))
+    sym (ap reading_of (all l ∙ ends-refused (input l) _ _ _ _ (reached l) (not-at-end (decoded fr)) (a-line fr).bytes (a-line fr).is g.0.0 e))
 
 loop-again : tie.Need-loop-preserved invariant-loop decreases-loop
 loop-again c =
     let e = c.before.before.before.before in
-    (next-within (framed e), (decoded (framed e)).decode.ensures.0, (here e).loop.invariant.2, reached-transition (input (here e)) _ _ _ _ (reached (here e)) (not-at-end (decoded (framed e))) (a-line (framed e)).bytes (a-line (framed e)).is (was-taken e).seen (f e) (was-taken e).is (was-taken e).met c.before.before.after.result c.before.before.after.ensures _ (a-line (framed e)).count c.before.if3.true)
+    (next-within (framed e), (decoded (framed e)).decode.ensures.0, (here e).loop.invariant.2, reached_transition (input (here e)) _ _ _ _ (reached (here e)) (not-at-end (decoded (framed e))) (a-line (framed e)).bytes (a-line (framed e)).is (was-taken e).seen (f e) (was-taken e).is (was-taken e).met c.before.before.after.result c.before.before.after.ensures _ (a-line (framed e)).count c.before.if3.true)
 
 loop-again-2 : tie.Need-loop-preserved-2 invariant-loop decreases-loop
 loop-again-2 c =
     let e = c.before.before.before.before.before in
-    (next-within (framed e), (decoded (framed e)).decode.ensures.0, (here e).loop.invariant.2, reached-row (input (here e)) _ _ _ _ (reached (here e)) (not-at-end (decoded (framed e))) (a-line (framed e)).bytes (a-line (framed e)).is (was-taken e).seen (f e) (was-taken e).is (was-taken e).met c.before.before.before.after.result c.before.before.before.after.ensures _ (a-line (framed e)).count c.before.if4.true)
+    (next-within (framed e), (decoded (framed e)).decode.ensures.0, (here e).loop.invariant.2, reached_row (input (here e)) _ _ _ _ (reached (here e)) (not-at-end (decoded (framed e))) (a-line (framed e)).bytes (a-line (framed e)).is (was-taken e).seen (f e) (was-taken e).is (was-taken e).met c.before.before.before.after.result c.before.before.before.after.ensures _ (a-line (framed e)).count c.before.if4.true)
 
 loop-again-3 : tie.Need-loop-preserved-3 invariant-loop decreases-loop
 loop-again-3 c =
     let e = c.before.before.before.before in
-    (next-within (framed e), (decoded (framed e)).decode.ensures.0, (here e).loop.invariant.2, reached-other (input (here e)) _ _ _ _ (reached (here e)) (not-at-end (decoded (framed e))) (a-line (framed e)).bytes (a-line (framed e)).is (was-taken e).seen (f e) (was-taken e).is (was-taken e).met c.before.before.after.result c.before.before.after.ensures _ (a-line (framed e)).count c.before.if3.false c.if4.false)
+    (next-within (framed e), (decoded (framed e)).decode.ensures.0, (here e).loop.invariant.2, reached_other (input (here e)) _ _ _ _ (reached (here e)) (not-at-end (decoded (framed e))) (a-line (framed e)).bytes (a-line (framed e)).is (was-taken e).seen (f e) (was-taken e).is (was-taken e).met c.before.before.after.result c.before.before.after.ensures _ (a-line (framed e)).count c.before.if3.false c.if4.false)
 
 returns-4 : tie.Need-returns-4 invariant-loop decreases-loop
 returns-4 c =
     let l = c.before.before in
     let r = reached l in
-    c.finished.ensures ∙ (rw (tables-are (input l) _ _ _ _ r)) ∙ sym (ap reading-of (all l ∙ ends-here (input l) _ _ _ _ r c.before.loop-test.false))
+    c.finished.ensures ∙ (rw (tables_are (input l) _ _ _ _ r)) ∙ sym (ap reading_of (all l ∙ ends-here (input l) _ _ _ _ r c.before.loop-test.false))
 
 pub read_spec : {M : Type 1} → statement M
 read_spec =

@@ -7,7 +7,7 @@ use mathlib.Core.List.{List}
 use lib.ListN.{length}
 use Rattle.sets.specs.Stores.{rows_at}
 use Rattle.frames.specs.Hex.{line_of}
-use Rattle.frames.specs.Writing.{row-lines, answer-bytes, answer-lines}
+use Rattle.frames.specs.Writing.{row_lines, answer_bytes, answer_lines}
 use Rattle.frames.proofs.Overwriting.{wrote_then}
 use Rattle.frames.proofs.Lining.{answer-length, answer-is, answer-long, no_room, all-written}
 use Rattle.frames.proofs.write_answer.Statement.{statement}
@@ -22,10 +22,10 @@ module _ (c : tie.After-region-length) where
   to = start.args.to.now
 
   abbrev lines : List ℕ
-  lines = row-lines (rows_at start.args.region.now 0 start.args.rows)
+  lines = row_lines (rows_at start.args.region.now 0 start.args.rows)
 
   abbrev whole : List ℕ
-  whole = answer-lines start.args.outcome start.args.states start.args.attempts start.args.formed (rows_at start.args.region.now 0 start.args.rows)
+  whole = answer_lines start.args.outcome start.args.states start.args.attempts start.args.formed (rows_at start.args.region.now 0 start.args.rows)
 
   size : length whole ≡ c.region-length.result + 23
   size =
@@ -49,14 +49,14 @@ returns-2 c =
     let p = r.before.before.before.before in
     let l = p.before.before.before in
     let a = (start l).args in
-    let head = line_of (answer-bytes a.outcome a.states a.attempts a.formed a.rows) in
+    let head = line_of (answer_bytes a.outcome a.states a.attempts a.formed a.rows) in
     let h = answer-length a.outcome a.states a.attempts a.formed a.rows in
     all-written (whole l) (to l) _ _ (omega (arith, size l))
     (rw (answer-is a.outcome a.states a.attempts a.formed a.region.now a.rows)
     (wrote_then head (lines l) 0 _ _ (to l) _ _ (omega (arith, h)) p.put-answer.ensures r.put-region.ensures))
 
-pub write-answer-spec : {M : Type 1} → statement M
-write-answer-spec =
+pub write_answer_spec : {M : Type 1} → statement M
+write_answer_spec =
     tie.close (tie.spec
     (λ c κs. search rules)
     (λ c. search rules)

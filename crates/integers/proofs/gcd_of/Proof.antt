@@ -23,5 +23,5 @@ loop-again c = gcd-step _ _ (omega arith) ∙ c.before.loop.invariant
 returns : tie.Need-returns invariant-loop decreases-loop
 returns c = cc (gcd-zero c.before.loop.x)
 
-pub gcd-of-spec : {M : Type 1} → statement M
-gcd-of-spec = tie.close (tie.spec invariant-loop decreases-loop (λ c. refl) (λ c. omega arith) loop-less loop-again returns)
+pub gcd_of_spec : {M : Type 1} → statement M
+gcd_of_spec = tie.close (tie.spec invariant-loop decreases-loop (λ c. refl) (λ c. omega arith) loop-less loop-again returns)

@@ -25,5 +25,5 @@ returns-2 c =
     rw (to_z-of_z b.ranges.x, to_z_pos w64 b.requires.2)
     (to_z-of_z (quot_fits b.args.x b.args.d b.requires.0))
 
-pub quotient-spec : {M : Type 1} → statement M
-quotient-spec = tie.close (tie.spec returns (λ c. search rules) div-result returns-2)
+pub quotient_spec : {M : Type 1} → statement M
+quotient_spec = tie.close (tie.spec returns (λ c. search rules) div-result returns-2)

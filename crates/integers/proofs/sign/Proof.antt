@@ -9,13 +9,13 @@ use mir.Syntax.{w32}
 use mir.Val.{SFits, to_z}
 use mir.Facts.{to_z-of_z}
 use Rattle.integers.specs.Signs.{isAbove, isBelow, sign}
-use Rattle.integers.proofs.Tests.{above-lt, below-lt}
+use Rattle.integers.proofs.Tests.{above_lt, below_lt}
 use Rattle.integers.proofs.sign.Statement.{statement}
 use Rattle.integers.proofs.sign.Tie as tie
 
 above : (c : tie.Joined1) → c.if1.above ≡ cond (isAbove c.before.args.x) 1 0
 above c =
-    let e = above-lt c.before.args.x in
+    let e = above_lt c.before.args.x in
     ⊎_elim
     (λ w. w.1 ∙ sym (ap (λ (b : Bool). cond b 1 0) (e ∙ rw (to_z-of_z c.before.ranges.x) at w.0.taken)))
     (λ w. w.1 ∙ sym (ap (λ (b : Bool). cond b 1 0) (e ∙ rw (to_z-of_z c.before.ranges.x) at w.0.left)))
@@ -24,7 +24,7 @@ above c =
 below : (c : tie.Joined2) → c.if2.below ≡ cond (isBelow c.before.before.args.x) 1 0
 below c =
     let s = c.before.before in
-    let e = below-lt s.args.x in
+    let e = below_lt s.args.x in
     ⊎_elim
     (λ w. w.1 ∙ sym (ap (λ (b : Bool). cond b 1 0) (e ∙ rw (to_z-of_z s.ranges.x) at w.0.taken)))
     (λ w. w.1 ∙ sym (ap (λ (b : Bool). cond b 1 0) (e ∙ rw (to_z-of_z s.ranges.x) at w.0.left)))
@@ -49,5 +49,5 @@ sub-result c = rw (read c) (sign_fits c.before.before.args.x)
 returns : tie.Need-returns
 returns c = rw (read c) (to_z-of_z (sign_fits c.before.before.args.x))
 
-pub sign-spec : {M : Type 1} → statement M
-sign-spec = tie.close (tie.spec sub-result returns)
+pub sign_spec : {M : Type 1} → statement M
+sign_spec = tie.close (tie.spec sub-result returns)

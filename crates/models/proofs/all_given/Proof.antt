@@ -9,15 +9,15 @@ use lib.Dec.{leb}
 use lib.ListN.{length, get_or, drop}
 use lib.IntN.{ℤ, pos, nat_abs}
 use mir.Syntax.{w32, w64}
-use Rattle.integers.specs.Limits.{given-limit}
+use Rattle.integers.specs.Limits.{given_limit}
 use Rattle.integers.specs.Lists.{every}
 use Rattle.integers.proofs.Bounds.{back}
-use Rattle.integers.proofs.Loops.{every-stops, every-turn, every-done}
+use Rattle.integers.proofs.Loops.{every_stops, every_turn, every-done}
 use Rattle.models.proofs.all_given.Statement.{statement}
 use Rattle.models.proofs.all_given.Tie as tie
 
 abbrev small : ℤ → Bool
-small z = leb (nat_abs z) given-limit
+small z = leb (nat_abs z) given_limit
 
 abbrev invariant-loop : tie.invariant-loop
 invariant-loop e i₀ i = (i ≤ 16) × (every small (drop i e) ≡ every small e)
@@ -42,13 +42,13 @@ loop-holds c = (search rules, refl)
 returns : tie.Need-returns invariant-loop decreases-loop
 returns c =
     let l = c.before.before.before.before.before in
-    every-stops small l.before.args.t1 l.loop.i (pos 0) (omega (arith, long l.before)) (lt-leb _ _ (rw (read c.before) at c.if1.true)) ∙ l.loop.invariant.1
+    every_stops small l.before.args.t1 l.loop.i (pos 0) (omega (arith, long l.before)) (lt-leb _ _ (rw (read c.before) at c.if1.true)) ∙ l.loop.invariant.1
 
 loop-again : tie.Need-loop-preserved invariant-loop decreases-loop
 loop-again c =
     let l = c.before.before.before.before.before in (
       search rules,
-      every-turn small l.before.args.t1 l.loop.i (pos 0) (omega (arith, long l.before)) (le-leb _ _ (rw (read c.before) at c.if1.false)) ∙ l.loop.invariant.1,
+      every_turn small l.before.args.t1 l.loop.i (pos 0) (omega (arith, long l.before)) (le-leb _ _ (rw (read c.before) at c.if1.false)) ∙ l.loop.invariant.1,
     )
 
 returns-2 : tie.Need-returns-2 invariant-loop decreases-loop
@@ -56,8 +56,8 @@ returns-2 c =
     let l = c.before in
     every-done small l.before.args.t1 l.loop.i (pos 0) (omega (arith, long l.before)) ∙ l.loop.invariant.1
 
-pub all-given-spec : {M : Type 1} → statement M
-all-given-spec =
+pub all_given_spec : {M : Type 1} → statement M
+all_given_spec =
     tie.close (tie.spec
     invariant-loop
     decreases-loop

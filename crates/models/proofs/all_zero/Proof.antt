@@ -9,7 +9,7 @@ use mir.Syntax.{w32}
 use Rattle.integers.specs.Lists.{every}
 use Rattle.integers.specs.Signs.{is_zero}
 use Rattle.integers.proofs.Bounds.{bits-zero, zero_bits}
-use Rattle.integers.proofs.Loops.{every-stops, every-turn, every-done}
+use Rattle.integers.proofs.Loops.{every_stops, every_turn, every-done}
 use Rattle.models.proofs.all_zero.Statement.{statement}
 use Rattle.models.proofs.all_zero.Tie as tie
 
@@ -29,14 +29,14 @@ returns : tie.Need-returns invariant-loop decreases-loop
 returns c =
     let l = c.before.before.before in
     let e = l.before.args.t1 in
-    every-stops is_zero e l.loop.i (pos 0) (omega (arith, long l.before)) (zero_bits w32 (get_or e l.loop.i (pos 0)) c.if1.true) ∙ l.loop.invariant.1
+    every_stops is_zero e l.loop.i (pos 0) (omega (arith, long l.before)) (zero_bits w32 (get_or e l.loop.i (pos 0)) c.if1.true) ∙ l.loop.invariant.1
 
 loop-again : tie.Need-loop-preserved invariant-loop decreases-loop
 loop-again c =
     let l = c.before.before.before in
     let e = l.before.args.t1 in (
       search rules,
-      every-turn is_zero e l.loop.i (pos 0) (omega (arith, long l.before))
+      every_turn is_zero e l.loop.i (pos 0) (omega (arith, long l.before))
           (bits-zero w32 (get_or e l.loop.i (pos 0)) c.before.if12.given c.if1.false) ∙ l.loop.invariant.1,
     )
 
@@ -45,8 +45,8 @@ returns-2 c =
     let l = c.before in
     every-done is_zero l.before.args.t1 l.loop.i (pos 0) (omega (arith, long l.before)) ∙ l.loop.invariant.1
 
-pub all-zero-spec : {M : Type 1} → statement M
-all-zero-spec =
+pub all_zero_spec : {M : Type 1} → statement M
+all_zero_spec =
     tie.close (tie.spec
     invariant-loop
     decreases-loop

@@ -10,13 +10,13 @@ use mathlib.Core.Bool.{◌||◌}
 use mir.Syntax.{w32}
 use Rattle.integers.specs.Signs.{is_zero}
 use Rattle.integers.proofs.Bounds.{back}
-use Rattle.models.specs.Acceptance.{entry-declared, entries-declared}
-use Rattle.models.proofs.Tables.{named-stops, named-turn, named-done}
+use Rattle.models.specs.Acceptance.{entry_declared, entries_declared}
+use Rattle.models.proofs.Tables.{named_stops, named_turn, named-done}
 use Rattle.models.proofs.entries_declared.Statement.{statement}
 use Rattle.models.proofs.entries_declared.Tie as tie
 
 abbrev invariant-loop : tie.invariant-loop
-invariant-loop h kind e i₀ i = (i ≤ 16) × (entries-declared h kind i (drop i e) ≡ entries-declared h kind 0 e)
+invariant-loop h kind e i₀ i = (i ≤ 16) × (entries_declared h kind i (drop i e) ≡ entries_declared h kind 0 e)
 
 abbrev decreases-loop : tie.decreases-loop
 decreases-loop h kind e i₀ i = 16 - i
@@ -27,7 +27,7 @@ long c = search rules
 -- the test, of the entry that the machine reads
 read : (c : tie.After-is-named invariant-loop decreases-loop) →
     let l = c.before.before.before in
-    c.is-named.result ≡ (is_zero (get_or l.before.args.t3 l.loop.i (pos 0)) || entry-declared l.before.args.h l.before.args.kind l.loop.i)
+    c.is-named.result ≡ (is_zero (get_or l.before.args.t3 l.loop.i (pos 0)) || entry_declared l.before.args.h l.before.args.kind l.loop.i)
 read c = rw (back w32 _ c.before.is-named-arg.given) at c.is-named.ensures
 
 loop-holds : tie.Need-loop-init invariant-loop decreases-loop
@@ -36,14 +36,14 @@ loop-holds c = (search rules, refl)
 returns : tie.Need-returns invariant-loop decreases-loop
 returns c =
     let l = c.before.before.before.before in
-    named-stops l.before.args.h l.before.args.kind l.before.args.t3 l.loop.i (omega (arith, long l.before))
+    named_stops l.before.args.h l.before.args.kind l.before.args.t3 l.loop.i (omega (arith, long l.before))
     (sym (read c.before) ∙ not-true c.before.is-named.result c.if1.true) ∙ l.loop.invariant.1
 
 loop-again : tie.Need-loop-preserved invariant-loop decreases-loop
 loop-again c =
     let l = c.before.before.before.before in (
       search rules,
-      named-turn l.before.args.h l.before.args.kind l.before.args.t3 l.loop.i (omega (arith, long l.before))
+      named_turn l.before.args.h l.before.args.kind l.before.args.t3 l.loop.i (omega (arith, long l.before))
           (sym (read c.before) ∙ not-false c.before.is-named.result c.if1.false) ∙ l.loop.invariant.1,
     )
 
@@ -52,8 +52,8 @@ returns-2 c =
     let l = c.before in
     named-done l.before.args.h l.before.args.kind l.before.args.t3 l.loop.i (omega (arith, long l.before)) ∙ l.loop.invariant.1
 
-pub entries-declared-spec : {M : Type 1} → statement M
-entries-declared-spec =
+pub entries_declared_spec : {M : Type 1} → statement M
+entries_declared_spec =
     tie.close (tie.spec
     invariant-loop
     decreases-loop

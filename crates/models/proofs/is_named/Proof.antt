@@ -9,8 +9,8 @@ returns : tie.Need-returns
 returns c = rw (bits-zero w32 c.before.args.z c.before.ranges.z.sfits c.if1.true)
 
 returns-2 : tie.Need-returns-2
-returns-2 c = rw (zero_bits w32 c.before.before.args.z c.before.if1.false) c.entry-declared.ensures
+returns-2 c = rw (zero_bits w32 c.before.before.args.z c.before.if1.false) c.entry_declared.ensures
 
-pub is-named-spec : {M : Type 1} → statement M
-is-named-spec = tie.close (tie.spec returns
+pub is_named_spec : {M : Type 1} → statement M
+is_named_spec = tie.close (tie.spec returns
     (λ c κs. search rules) returns-2)

@@ -11,6 +11,6 @@ returns c = all-bits c.before.args.resets c.before.args.clocks (omega arith) c.i
 returns-2 : tie.Need-returns-2
 returns-2 c = rw (no_wrap c.before.args.clocks c.if1.false)
 
-pub resets-declared-spec : {M : Type 1} → statement M
-resets-declared-spec = tie.close (tie.spec returns
+pub resets_declared_spec : {M : Type 1} → statement M
+resets_declared_spec = tie.close (tie.spec returns
     (λ c. search rules) returns-2)

@@ -42,8 +42,8 @@ loop-again c = search rules
 returns : tie.Need-returns invariant-loop decreases-loop
 returns c = search rules
 
-pub with-reference-spec : {M : Type 1} → statement M
-with-reference-spec =
+pub with_reference_spec : {M : Type 1} → statement M
+with_reference_spec =
     tie.close
     (tie.spec
     invariant-loop

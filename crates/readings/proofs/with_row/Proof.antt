@@ -54,8 +54,8 @@ loop-again c = search rules
 returns : tie.Need-returns invariant-loop decreases-loop
 returns c = search rules
 
-pub with-row-spec : {M : Type 1} → statement M
-with-row-spec =
+pub with_row_spec : {M : Type 1} → statement M
+with_row_spec =
     tie.close
     (tie.spec
     invariant-loop

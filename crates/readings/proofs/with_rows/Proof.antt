@@ -36,8 +36,8 @@ loop-again c = search rules
 returns : tie.Need-returns invariant-loop decreases-loop
 returns c = search rules
 
-pub with-rows-spec : {M : Type 1} → statement M
-with-rows-spec =
+pub with_rows_spec : {M : Type 1} → statement M
+with_rows_spec =
     tie.close
     (tie.spec
     invariant-loop

@@ -39,8 +39,8 @@ loop-again c = search rules
 returns : tie.Need-returns invariant-loop decreases-loop
 returns c = search rules
 
-pub with-transitions-spec : {M : Type 1} → statement M
-with-transitions-spec =
+pub with_transitions_spec : {M : Type 1} → statement M
+with_transitions_spec =
     tie.close
     (tie.spec
     invariant-loop

@@ -7,13 +7,13 @@ use borrow.Author.Rules.{rules}
 use lib.ListN.{get_or}
 use lib.IntN.{pos}
 use Rattle.integers.specs.Lists.{every, from}
-use Rattle.removal.specs.Alone.{flags-fit}
-use Rattle.removal.proofs.AtOnce.{flag-zero, flag_one, flag-neither, flag_at, flags-start, flags-turn, flags-stop, flags-done}
+use Rattle.removal.specs.Alone.{flags_fit}
+use Rattle.removal.proofs.AtOnce.{flag-zero, flag_one, flag_neither, flag_at, flags-start, flags_turn, flags-stop, flags-done}
 use Rattle.removal.proofs.flags_fit.Statement.{statement}
 use Rattle.removal.proofs.flags_fit.Tie as tie
 
 abbrev invariant-loop : tie.invariant-loop
-invariant-loop s n i₀ i = (i ≤ n) × (every (flag_at s) (from i (n - i)) ≡ flags-fit s n)
+invariant-loop s n i₀ i = (i ≤ n) × (every (flag_at s) (from i (n - i)) ≡ flags_fit s n)
 
 abbrev decreases-loop : tie.decreases-loop
 decreases-loop s n i₀ i = n - i
@@ -25,7 +25,7 @@ returns c =
     let l = t.before in
     let z = l.before.args in
     flags-stop z.s.now z.n l.loop.i t.loop-test.true
-    (flag-neither (get_or z.s.now (l.loop.i * 17 + 16) (pos 0)) f.f.given c.before.if1.true c.if2.true) ∙ l.loop.invariant.1
+    (flag_neither (get_or z.s.now (l.loop.i * 17 + 16) (pos 0)) f.f.given c.before.if1.true c.if2.true) ∙ l.loop.invariant.1
 
 loop-again : tie.Need-loop-preserved invariant-loop decreases-loop
 loop-again c =
@@ -35,15 +35,15 @@ loop-again c =
     let z = l.before.args in
     let x = get_or z.s.now (l.loop.i * 17 + 16) (pos 0) in (
       omega arith,
-      flags-turn z.s.now z.n l.loop.i t.loop-test.true
+      flags_turn z.s.now z.n l.loop.i t.loop-test.true
           (⊎_elim (λ w. flag_one x f.f.given w.0.taken w.1.left) (λ w. flag-zero x f.f.given w.left) c.if1.branch) ∙ l.loop.invariant.1,
     )
 
 returns-2 : tie.Need-returns-2 invariant-loop decreases-loop
 returns-2 c = let l = c.before in let z = l.before.args in flags-done z.s.now z.n l.loop.i c.loop-test.false ∙ l.loop.invariant.1
 
-pub flags-fit-spec : {M : Type 1} → statement M
-flags-fit-spec =
+pub flags_fit_spec : {M : Type 1} → statement M
+flags_fit_spec =
     tie.close
     (tie.spec invariant-loop decreases-loop
     (λ c. (search rules, flags-start c.args.s.now c.args.n))

@@ -5,13 +5,13 @@ use Prim.Native.Nat.{◌+◌, ◌-◌, ◌*◌, ◌≤◌}
 use native.Mathlib.Omega.{arith}
 use borrow.Author.Rules.{rules}
 use lib.ListN.{length}
-use Rattle.rows.specs.Rows.{divided-down, row_at}
-use Rattle.rows.proofs.Dividing.{divided-down-small, divided-down-wide}
+use Rattle.rows.specs.Rows.{divided_down, row_at}
+use Rattle.rows.proofs.Dividing.{divided_down-small, divided_down-wide}
 use Rattle.sets.specs.Sets.{joined}
 use Rattle.sets.specs.Stores.{rows_at, Left, next, progress, Ready, put_all}
-use Rattle.sets.proofs.Stores.{wide-row-at, holds-none}
-use Rattle.sets.proofs.Steps.{ready-start, ready-left, ready-proper, put-progress, put-ready, put-left, put-all-done}
-use Rattle.removal.proofs.Making.{Growing, growing-none, next-growing, making-start, making-turn}
+use Rattle.sets.proofs.Stores.{wide-row_at, holds-none}
+use Rattle.sets.proofs.Steps.{ready_start, ready_left, ready_proper, put-progress, put_ready, put-left, put_all-done}
+use Rattle.removal.proofs.Making.{Growing, growing_none, next_growing, making_start, making_turn}
 use Rattle.removal.proofs.make_set.Statement.{statement}
 use Rattle.removal.proofs.make_set.Tie as tie
 
@@ -26,12 +26,12 @@ decreases-loop s₀ n c₀ i₀ s c i = n - i
 loop-holds : tie.Need-loop-init invariant-loop decreases-loop
 loop-holds c =
     let s = c.before.args.s.now in
-    let r = ready-start (holds-none s c.before.requires.1) in
-    rw c.with.ensures (search rules, refl, r, ready-left s _ r, growing-none s, making-start s c.before.args.n)
+    let r = ready_start (holds-none s c.before.requires.1) in
+    rw c.with.ensures (search rules, refl, r, ready_left s _ r, growing_none s, making_start s c.before.args.n)
 
 -- in a turn: where the row is read, and what was put
-settled : (c : tie.After-divided-down invariant-loop decreases-loop) → (let l = c.before.before.before.before.before in c.divided-down.result ≡ divided-down (row_at l.loop.s (l.loop.i * 17)))
-settled c = rw c.before.read.ensures at c.divided-down.ensures
+settled : (c : tie.After-divided-down invariant-loop decreases-loop) → (let l = c.before.before.before.before.before in c.divided_down.result ≡ divided_down (row_at l.loop.s (l.loop.i * 17)))
+settled c = rw c.before.read.ensures at c.divided_down.ensures
 
 loop-again : tie.Need-loop-preserved invariant-loop decreases-loop
 loop-again c =
@@ -43,27 +43,27 @@ loop-again c =
     let i = l.loop.i in
     let v = l.loop.invariant in
     let r = row_at s (i * 17) in
-    let x = divided-down r in
+    let x = divided_down r in
     let d : Left (next x.fate x.row (progress s l.loop.c)) s p.put.new.0 p.put.result = rw (settled p.before) at p.put.ensures in
-    let small = divided-down-small r in
-    let wide = divided-down-wide r (wide-row-at s (i * 17) (omega (arith, b.requires, t.loop-test.true, v.1))) in
+    let small = divided_down-small r in
+    let wide = divided_down-wide r (wide-row_at s (i * 17) (omega (arith, b.requires, t.loop-test.true, v.1))) in
     let e = put-progress x.fate x.row small wide _ _ _ _ v.2 d in (
       omega arith,
       search rules,
-      put-ready x.fate x.row small wide _ _ _ _ v.2 d,
+      put_ready x.fate x.row small wide _ _ _ _ v.2 d,
       put-left x.fate x.row small wide _ _ _ _ v.2 d b.args.s.now b.requires.1 v.3,
-      rw e (next-growing x.fate x.row (progress s l.loop.c) i (omega (arith, b.requires.0, t.loop-test.true)) v.4),
-      making-turn b.args.s.now s l.loop.c b.args.n i t.loop-test.true _ _ (ready-proper s l.loop.c v.2) v.4 v.3 e ∙ v.5,
+      rw e (next_growing x.fate x.row (progress s l.loop.c) i (omega (arith, b.requires.0, t.loop-test.true)) v.4),
+      making_turn b.args.s.now s l.loop.c b.args.n i t.loop-test.true _ _ (ready_proper s l.loop.c v.2) v.4 v.3 e ∙ v.5,
     )
 
 returns : tie.Need-returns invariant-loop decreases-loop
 returns c =
     let l = c.before in
     let z = l.before.before.args in
-    rw (← l.loop.invariant.5, put-all-done z.s.now 0 z.n l.loop.i (omega arith) (progress l.loop.s l.loop.c)) l.loop.invariant.3
+    rw (← l.loop.invariant.5, put_all-done z.s.now 0 z.n l.loop.i (omega arith) (progress l.loop.s l.loop.c)) l.loop.invariant.3
 
-pub make-set-spec : {M : Type 1} → statement M
-make-set-spec =
+pub make_set_spec : {M : Type 1} → statement M
+make_set_spec =
     tie.close
     (tie.spec invariant-loop decreases-loop
     (λ c κs. search rules)

@@ -1,14 +1,14 @@
 -- `removal::part_end` meets its contract. Assumes nothing.
 use borrow.Author.Rules.{rules}
-use Rattle.removal.proofs.Ends.{end_fits, end_short, end-many}
+use Rattle.removal.proofs.Ends.{end_fits, end_short, end_many}
 use Rattle.removal.proofs.part_end.Statement.{statement}
 use Rattle.removal.proofs.part_end.Tie as tie
 
-pub part-end-spec : {M : Type 1} → statement M
-part-end-spec =
+pub part_end_spec : {M : Type 1} → statement M
+part_end_spec =
     tie.close
     (tie.spec
     (λ c. search rules)
     (λ c. let z = c.before.before.args in end_fits z.long z.rows c.before.if1.true c.if2.true)
     (λ c. let z = c.before.before.args in end_short z.long z.rows c.before.if1.true c.if2.false)
-    (λ c. let z = c.before.args in end-many z.long z.rows c.if1.false))
+    (λ c. let z = c.before.args in end_many z.long z.rows c.if1.false))

@@ -1,7 +1,7 @@
 -- `removal::refused_at_once` meets its contract. Assumes nothing.
 use mathlib.Core.Path.{sym, ◌∙◌}
 use borrow.Author.Rules.{rules}
-use Rattle.removal.proofs.AtOnce.{first_short, second_short, too_many, flag-wrong, variable-wrong, none-wrong}
+use Rattle.removal.proofs.AtOnce.{first_short, second_short, too_many, flag_wrong, variable_wrong, none_wrong}
 use Rattle.removal.proofs.refused_at_once.Statement.{statement}
 use Rattle.removal.proofs.refused_at_once.Tie as tie
 
@@ -26,8 +26,8 @@ returns-4 c =
     let f = g.before in
     let e = f.before in
     let z = e.before.before.args in
-    none-wrong z.count z.variables.now z.first.now z.second.now e.if1.false f.if2.false g.if3.false
-    (sym k.flags-fit.ensures ∙ v.before.if4.true) (sym v.variables-fit.ensures ∙ c.if5.true)
+    none_wrong z.count z.variables.now z.first.now z.second.now e.if1.false f.if2.false g.if3.false
+    (sym k.flags_fit.ensures ∙ v.before.if4.true) (sym v.variables-fit.ensures ∙ c.if5.true)
 
 returns-5 : tie.Need-returns-5
 returns-5 c =
@@ -37,8 +37,8 @@ returns-5 c =
     let f = g.before in
     let e = f.before in
     let z = e.before.before.args in
-    variable-wrong z.count z.variables.now z.first.now z.second.now e.if1.false f.if2.false g.if3.false
-    (sym k.flags-fit.ensures ∙ v.before.if4.true) (sym v.variables-fit.ensures ∙ c.if5.false)
+    variable_wrong z.count z.variables.now z.first.now z.second.now e.if1.false f.if2.false g.if3.false
+    (sym k.flags_fit.ensures ∙ v.before.if4.true) (sym v.variables-fit.ensures ∙ c.if5.false)
 
 returns-6 : tie.Need-returns-6
 returns-6 c =
@@ -47,9 +47,9 @@ returns-6 c =
     let f = g.before in
     let e = f.before in
     let z = e.before.before.args in
-    flag-wrong z.count z.variables.now z.first.now z.second.now e.if1.false f.if2.false g.if3.false
-    (sym k.flags-fit.ensures ∙ c.if4.false)
+    flag_wrong z.count z.variables.now z.first.now z.second.now e.if1.false f.if2.false g.if3.false
+    (sym k.flags_fit.ensures ∙ c.if4.false)
 
-pub refused-at-once-spec : {M : Type 1} → statement M
-refused-at-once-spec =
+pub refused_at_once_spec : {M : Type 1} → statement M
+refused_at_once_spec =
     tie.close (tie.spec returns returns-2 returns-3 (λ c κs. search rules) (λ c κs. search rules) returns-4 returns-5 returns-6)

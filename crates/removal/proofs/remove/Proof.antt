@@ -12,5 +12,5 @@ returns c =
     removed-part z.count z.variables.now z.first z.second _ _ _ d.remove-between.result _ d.remove-between.ensures
     n.number.ensures c.part.ensures.numbers c.part.ensures.place
 
-pub remove-spec : {M : Type 1} → statement M
-remove-spec = tie.close (tie.spec (λ c κs. search rules) (λ c κs. search rules) (λ c κs. search rules) returns)
+pub remove_spec : {M : Type 1} → statement M
+remove_spec = tie.close (tie.spec (λ c κs. search rules) (λ c κs. search rules) (λ c κs. search rules) returns)

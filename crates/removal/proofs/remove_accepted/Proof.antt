@@ -1,7 +1,7 @@
 -- `removal::remove_accepted` meets its contract. Assumes nothing.
 use borrow.Author.Rules.{rules}
 use Rattle.removal.proofs.AtOnce.{accepted}
-use Rattle.removal.proofs.Alone.{made-between, accepted-moved}
+use Rattle.removal.proofs.Alone.{made_between, accepted-moved}
 use Rattle.removal.proofs.remove_accepted.Statement.{statement}
 use Rattle.removal.proofs.remove_accepted.Tie as tie
 
@@ -10,7 +10,7 @@ make-set-requires c κs =
     let b = c.before.before in
     let z = b.args in
     let k = accepted z.count z.variables.now z.first.now z.second.now b.requires in
-    (k.few, k.first-long)
+    (k.few, k.first_long)
 
 remove-all-requires : tie.Need-remove-all-requires
 remove-all-requires c κs =
@@ -18,7 +18,7 @@ remove-all-requires c κs =
     let b = m.before.before.before in
     let z = b.args in
     let k = accepted z.count z.variables.now z.first.now z.second.now b.requires in
-    (rw c.of.ensures (made-between z.count z.variables.now z.first.now z.second.now b.requires _ _ m.make-set.ensures), k.variables)
+    (rw c.of.ensures (made_between z.count z.variables.now z.first.now z.second.now b.requires _ _ m.make-set.ensures), k.variables)
 
 returns : tie.Need-returns
 returns c =
@@ -29,8 +29,8 @@ returns c =
     let z = b.args in
     accepted-moved z.count z.variables.now z.first.now z.second.now b.requires _ _ m.make-set.ensures _ _ _ (rw o.of.ensures at r.remove-all.ensures)
 
-pub remove-accepted-spec : {M : Type 1} → statement M
-remove-accepted-spec =
+pub remove_accepted_spec : {M : Type 1} → statement M
+remove_accepted_spec =
     tie.close
     (tie.spec
     make-set-requires

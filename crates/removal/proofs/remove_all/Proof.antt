@@ -4,7 +4,7 @@ use native.Mathlib.Omega.{arith}
 use borrow.Author.Rules.{rules}
 use lib.ListN.{length, take}
 use lib.Seq.{take_all}
-use Rattle.removal.proofs.Turns.{Turned, turned_none, turned-between, turned_more, variable-at}
+use Rattle.removal.proofs.Turns.{Turned, turned_none, turned-between, turned_more, variable_at}
 use Rattle.removal.proofs.remove_all.Statement.{statement}
 use Rattle.removal.proofs.remove_all.Tie as tie
 
@@ -23,7 +23,7 @@ remove-next-requires c κs =
     let l = t.before in
     let b = l.before.before in
     let z = b.args in
-    let v = variable-at z.variables.now l.loop.i b.requires.1 t.loop-test.true in
+    let v = variable_at z.variables.now l.loop.i b.requires.1 t.loop-test.true in
     (turned-between z.variables.now z.first.now z.second.now z.s b.requires.0 l.loop.i l.loop.first l.loop.second l.loop.done l.loop.invariant.1, v.0, v.1)
 
 loop-again : tie.Need-loop-preserved invariant-loop decreases-loop
@@ -41,8 +41,8 @@ loop-again c =
 returns : tie.Need-returns invariant-loop decreases-loop
 returns c = let l = c.before in rw (take_all l.loop.i l.before.before.args.variables.now c.loop-test.false) at l.loop.invariant.1
 
-pub remove-all-spec : {M : Type 1} → statement M
-remove-all-spec =
+pub remove_all_spec : {M : Type 1} → statement M
+remove_all_spec =
     tie.close
     (tie.spec invariant-loop decreases-loop
     loop-holds
@@ -52,6 +52,6 @@ remove-all-spec =
     (λ c. search rules)
     (λ c. search rules)
     loop-again
-    (λ c. c.before.loop.invariant.1.first-touched.long)
-    (λ c. c.before.loop.invariant.1.second-touched.long)
+    (λ c. c.before.loop.invariant.1.first_touched.long)
+    (λ c. c.before.loop.invariant.1.second_touched.long)
     returns)

@@ -2,14 +2,14 @@
 use mathlib.Core.Path.{◌≡◌, sym, ◌∙◌}
 use borrow.Author.Rules.{rules}
 use Rattle.sets.specs.declared.Outcome.TheVariants.{Found}
-use Rattle.removal.specs.Alone.{refused-at-once}
+use Rattle.removal.specs.Alone.{refused_at_once}
 use Rattle.removal.proofs.Alone.{alone-refused, tidy-room, alone-found}
 use Rattle.removal.proofs.remove_between.Statement.{statement}
 use Rattle.removal.proofs.remove_between.Tie as tie
 
 -- none of the refusals at once applies
-none : (c : tie.After-enum-told) → (let z = c.before.before.before.before.before.before.args in refused-at-once z.count z.variables.now z.first.now z.second.now ≡ Found)
-none c = sym c.before.before.refused-at-once.ensures ∙ c.enum_told.given.1
+none : (c : tie.After-enum-told) → (let z = c.before.before.before.before.before.before.args in refused_at_once z.count z.variables.now z.first.now z.second.now ≡ Found)
+none c = sym c.before.before.refused_at_once.ensures ∙ c.enum_told.given.1
 
 tidy-requires : tie.Need-tidy-requires
 tidy-requires c κs =
@@ -24,7 +24,7 @@ returns c =
     let r = o.before.before in
     let z = r.before.before.before.before.args in
     rw c.refused.ensures
-    (alone-refused z.count z.variables.now z.first.now z.second.now _ _ r.refused-at-once.ensures o.o.given.1)
+    (alone-refused z.count z.variables.now z.first.now z.second.now _ _ r.refused_at_once.ensures o.o.given.1)
 
 returns-2 : tie.Need-returns-2
 returns-2 c =
@@ -34,8 +34,8 @@ returns-2 c =
     let z = t.before.before.before.before.before.before.args in
     alone-found z.count z.variables.now z.first.now z.second.now (none t) _ _ _ r.remove-accepted.ensures _ _ d.tidy.ensures
 
-pub remove-between-spec : {M : Type 1} → statement M
-remove-between-spec =
+pub remove_between_spec : {M : Type 1} → statement M
+remove_between_spec =
     tie.close
     (tie.spec
     (λ c κs. search rules)

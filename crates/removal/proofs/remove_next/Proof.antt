@@ -1,6 +1,6 @@
 -- `removal::remove_next` meets its contract. Assumes nothing.
 use borrow.Author.Rules.{rules}
-use Rattle.removal.proofs.Turns.{in-second, in-first, next-refused, next-first, next-second}
+use Rattle.removal.proofs.Turns.{in_second, in_first, next-refused, next-first, next-second}
 use Rattle.removal.proofs.remove_next.Statement.{statement}
 use Rattle.removal.proofs.remove_next.Tie as tie
 
@@ -9,14 +9,14 @@ without-requires c κs =
     let t = c.before.before in
     let b = t.before.before.before in
     let z = b.args in
-    (in-second z.first.now z.second.now z.s b.requires.0 t.before.enum_told.given.1 t.if1.true, b.requires.1, b.requires.2, b.requires.0.first-long)
+    (in_second z.first.now z.second.now z.s b.requires.0 t.before.enum_told.given.1 t.if1.true, b.requires.1, b.requires.2, b.requires.0.first_long)
 
 without-requires-2 : tie.Need-without-requires-2
 without-requires-2 c κs =
     let t = c.before.before in
     let b = t.before.before.before in
     let z = b.args in
-    (in-first z.first.now z.second.now z.s b.requires.0 t.before.enum_told.given.1 t.if1.false, b.requires.1, b.requires.2, b.requires.0.second-long)
+    (in_first z.first.now z.second.now z.s b.requires.0 t.before.enum_told.given.1 t.if1.false, b.requires.1, b.requires.2, b.requires.0.second_long)
 
 returns : tie.Need-returns
 returns c =
@@ -42,8 +42,8 @@ returns-3 c =
     rw c.of2.ensures
     (next-second z.first.now z.second.now z.s z.v b.requires.0 t.before.enum_told.given.1 t.if1.false _ _ w.without2.ensures)
 
-pub remove-next-spec : {M : Type 1} → statement M
-remove-next-spec =
+pub remove_next_spec : {M : Type 1} → statement M
+remove_next_spec =
     tie.close
     (tie.spec
     (λ c. search rules)

@@ -5,12 +5,12 @@ use native.Mathlib.Nat.{sub-zero}
 use native.Mathlib.Omega.{arith}
 use borrow.Author.Rules.{rules}
 use lib.ListN.{length}
-use Rattle.removal.proofs.Ends.{end-within, at-start}
+use Rattle.removal.proofs.Ends.{end_within, at-start}
 use Rattle.removal.proofs.rows_of.Statement.{statement}
 use Rattle.removal.proofs.rows_of.Tie as tie
 
 part-result-end : tie.Need-slice-bounds-result-end
-part-result-end c = let z = c.before.before.args in omega (arith, c.part_end.ensures, end-within (length z.second.now) z.done.rows)
+part-result-end c = let z = c.before.before.args in omega (arith, c.part_end.ensures, end_within (length z.second.now) z.done.rows)
 
 returns : tie.Need-returns
 returns c =
@@ -19,7 +19,7 @@ returns c =
     record { numbers = simp (sub-zero, h, c.before.part_end.ensures); place = at-start z.second.ptr ∙ simp h }
 
 part-result-end-2 : tie.Need-slice-bounds-result-end-2
-part-result-end-2 c = let z = c.before.before.args in omega (arith, c.part-end2.ensures, end-within (length z.first.now) z.done.rows)
+part-result-end-2 c = let z = c.before.before.args in omega (arith, c.part-end2.ensures, end_within (length z.first.now) z.done.rows)
 
 returns-2 : tie.Need-returns-2
 returns-2 c =
@@ -27,8 +27,8 @@ returns-2 c =
     let h : z.done.second ≡ false = c.before.before.if1.false in
     record { numbers = simp (sub-zero, h, c.before.part-end2.ensures); place = at-start z.first.ptr ∙ simp h }
 
-pub rows-of-spec : {M : Type 1} → statement M
-rows-of-spec =
+pub rows_of_spec : {M : Type 1} → statement M
+rows_of_spec =
     tie.close
     (tie.spec
     (λ c κs. search rules)

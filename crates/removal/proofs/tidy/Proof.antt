@@ -29,8 +29,8 @@ returns-3 c =
     let e = t.if1.false in
     record { first = simp (h, e) c.before.before.before.before.clear-from2.ensures; second = simp (h, e) c.before.clear4.ensures }
 
-pub tidy-spec : {M : Type 1} → statement M
-tidy-spec =
+pub tidy_spec : {M : Type 1} → statement M
+tidy_spec =
     tie.close
     (tie.spec
     (λ c. search rules)

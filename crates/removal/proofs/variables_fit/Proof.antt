@@ -5,14 +5,14 @@ use native.Mathlib.Omega.{arith}
 use borrow.Author.Rules.{rules}
 use lib.ListN.{length, drop}
 use Rattle.integers.specs.Lists.{every}
-use Rattle.integers.proofs.Loops.{every-stops, every-turn, every-done}
-use Rattle.removal.specs.Alone.{is-variable}
-use Rattle.removal.proofs.AtOnce.{variable-below, variable-above, variable-is}
+use Rattle.integers.proofs.Loops.{every_stops, every_turn, every-done}
+use Rattle.removal.specs.Alone.{is_variable}
+use Rattle.removal.proofs.AtOnce.{variable_below, variable_above, variable_is}
 use Rattle.removal.proofs.variables_fit.Statement.{statement}
 use Rattle.removal.proofs.variables_fit.Tie as tie
 
 abbrev invariant-loop : tie.invariant-loop
-invariant-loop variables i₀ i = (i ≤ length variables) × (every is-variable (drop i variables) ≡ every is-variable variables)
+invariant-loop variables i₀ i = (i ≤ length variables) × (every is_variable (drop i variables) ≡ every is_variable variables)
 
 abbrev decreases-loop : tie.decreases-loop
 decreases-loop variables i₀ i = length variables - i
@@ -21,27 +21,27 @@ returns : tie.Need-returns invariant-loop decreases-loop
 returns c =
     let t = c.before.before in
     let l = t.before in
-    every-stops is-variable l.before.args.variables.now l.loop.i 0 t.loop-test.true (variable-below _ c.if1.true) ∙ l.loop.invariant.1
+    every_stops is_variable l.before.args.variables.now l.loop.i 0 t.loop-test.true (variable_below _ c.if1.true) ∙ l.loop.invariant.1
 
 returns-2 : tie.Need-returns-2 invariant-loop decreases-loop
 returns-2 c =
     let t = c.before.before.before in
     let l = t.before in
-    every-stops is-variable l.before.args.variables.now l.loop.i 0 t.loop-test.true (variable-above _ c.if2.true) ∙ l.loop.invariant.1
+    every_stops is_variable l.before.args.variables.now l.loop.i 0 t.loop-test.true (variable_above _ c.if2.true) ∙ l.loop.invariant.1
 
 loop-again : tie.Need-loop-preserved invariant-loop decreases-loop
 loop-again c =
     let t = c.before.before.before in
     let l = t.before in (
       omega arith,
-      every-turn is-variable l.before.args.variables.now l.loop.i 0 t.loop-test.true (variable-is _ c.before.if1.false c.if2.false) ∙ l.loop.invariant.1,
+      every_turn is_variable l.before.args.variables.now l.loop.i 0 t.loop-test.true (variable_is _ c.before.if1.false c.if2.false) ∙ l.loop.invariant.1,
     )
 
 returns-3 : tie.Need-returns-3 invariant-loop decreases-loop
-returns-3 c = let l = c.before in every-done is-variable l.before.args.variables.now l.loop.i 0 c.loop-test.false ∙ l.loop.invariant.1
+returns-3 c = let l = c.before in every-done is_variable l.before.args.variables.now l.loop.i 0 c.loop-test.false ∙ l.loop.invariant.1
 
-pub variables-fit-spec : {M : Type 1} → statement M
-variables-fit-spec =
+pub variables_fit_spec : {M : Type 1} → statement M
+variables_fit_spec =
     tie.close
     (tie.spec invariant-loop decreases-loop
     (λ c. (search rules, refl))

@@ -48,8 +48,8 @@ same_length c = search rules
 returns : tie.Need-returns invariant-loop decreases-loop
 returns c = search rules
 
-pub read-rows-spec : {M : Type 1} → statement M
-read-rows-spec =
+pub read_rows_spec : {M : Type 1} → statement M
+read_rows_spec =
     tie.close
     (tie.spec
     invariant-loop

@@ -24,7 +24,7 @@ returns-2 c =
     let d = c.before.before in
     rw c.falsehood.ensures (constant-kept d.before.before.args.t1 d.before.before.args.strict (sym (tested d) ∙ c.before.if1.false))
 
-pub constant-spec : {M : Type 1} → statement M
-constant-spec =
+pub constant_spec : {M : Type 1} → statement M
+constant_spec =
     tie.close
     (tie.spec (λ c. search rules) (λ c κs. search rules) (λ c κs. search rules) returns (λ c κs. search rules) returns-2)

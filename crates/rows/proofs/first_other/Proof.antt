@@ -5,41 +5,41 @@ use Prim.Native.Nat.{◌+◌}
 use borrow.Author.Tests.{not-true, not-false}
 use borrow.Author.Rules.{rules}
 use Rattle.rows.specs.Rows.{is_same}
-use Rattle.rows.specs.Blocks.{four-order, first-other}
+use Rattle.rows.specs.Blocks.{four_order, first_other}
 use Rattle.rows.proofs.first_other.Statement.{statement}
 use Rattle.rows.proofs.first_other.Tie as tie
 
 returns : tie.Need-returns
-unfolding first-other
+unfolding first_other
 returns c = rw (sym c.before.same-four.ensures ∙ not-true _ c.if1.true)
 
 -- the blocks that are the same
-second : (c : tie.Else1) → is_same (four-order c.before.before.args.s.now (c.before.before.args.a + 4) c.before.before.args.t.now (c.before.before.args.b + 4)) ≡ true
+second : (c : tie.Else1) → is_same (four_order c.before.before.args.s.now (c.before.before.args.a + 4) c.before.before.args.t.now (c.before.before.args.b + 4)) ≡ true
 second c = sym c.before.same-four.ensures ∙ not-false _ c.if1.false
 
 third : (c : tie.Else2) →
     let z = c.before.before.before.before.args in
-    is_same (four-order z.s.now (z.a + 8) z.t.now (z.b + 8)) ≡ true
+    is_same (four_order z.s.now (z.a + 8) z.t.now (z.b + 8)) ≡ true
 third c = sym c.before.same-four2.ensures ∙ not-false _ c.if2.false
 
 returns-2 : tie.Need-returns-2
-unfolding first-other
+unfolding first_other
 returns-2 c = rw (second c.before.before, sym c.before.same-four2.ensures ∙ not-true _ c.if2.true)
 
 returns-3 : tie.Need-returns-3
-unfolding first-other
+unfolding first_other
 returns-3 c =
     let d = c.before.before in
     rw (second d.before.before, third d, sym c.before.same-four3.ensures ∙ not-true _ c.if3.true)
 
 returns-4 : tie.Need-returns-4
-unfolding first-other
+unfolding first_other
 returns-4 c =
     let d = c.before.before in
     rw (second d.before.before, third d, sym c.before.same-four3.ensures ∙ not-false _ c.if3.false)
 
-pub first-other-spec : {M : Type 1} → statement M
-first-other-spec =
+pub first_other_spec : {M : Type 1} → statement M
+first_other_spec =
     tie.close
     (tie.spec
     (λ c. search rules)

@@ -3,8 +3,8 @@ use mir.Facts.{to_z-of_z}
 use Rattle.rows.proofs.is_under.Statement.{statement}
 use Rattle.rows.proofs.is_under.Tie as tie
 
-pub is-under-spec : {M : Type 1} → statement M
-is-under-spec =
+pub is_under_spec : {M : Type 1} → statement M
+is_under_spec =
     tie.close
     (tie.spec
     (λ c. rw (c.if1.true, to_z-of_z c.before.ranges.z))

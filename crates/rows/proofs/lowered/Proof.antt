@@ -3,20 +3,20 @@ use mathlib.Core.Path.{◌≡◌, sym, ◌∙◌}
 use Prim.Native.Nat.{◌^◌}
 use native.Mathlib.Omega.{arith}
 use borrow.Author.Rules.{rules}
-use Rattle.entries.proofs.Fits.{divisor-above, divisor-le, small_of}
-use Rattle.rows.proofs.Lowering.{down-constant, down-kept, down-large}
+use Rattle.entries.proofs.Fits.{divisor-above, divisor_le, small_of}
+use Rattle.rows.proofs.Lowering.{down_constant, down_kept, down_large}
 use Rattle.rows.proofs.lowered.Statement.{statement}
 use Rattle.rows.proofs.lowered.Tie as tie
 
 returns : tie.Need-returns
 returns c =
     let s = c.before.before.before in
-    c.constant.ensures ∙ down-constant s.args.l s.args.strict (sym c.before.before.no-variables.ensures ∙ c.before.if1.true)
+    c.constant.ensures ∙ down_constant s.args.l s.args.strict (sym c.before.before.no-variables.ensures ∙ c.before.if1.true)
 
 quotients-requires : tie.Need-quotients-requires
 quotients-requires c κs =
     let s = c.before.before.before in
-    let h = divisor-le (2 ^ 62) s.args.l (omega arith) s.requires in
+    let h = divisor_le (2 ^ 62) s.args.l (omega arith) s.requires in
     rw c.divisor.ensures (s.requires, divisor-above s.args.l, omega arith)
 
 narrowed-requires : tie.Need-narrowed-requires
@@ -29,7 +29,7 @@ returns-2 c =
     let d = q.before in
     let v = d.before.before in
     rw c.narrowed.ensures
-    (down-kept v.before.args.l v.before.args.strict q.quotients.result d.divisor.result (sym v.no-variables.ensures ∙ d.before.if1.false) d.divisor.ensures q.quotients.ensures
+    (down_kept v.before.args.l v.before.args.strict q.quotients.result d.divisor.result (sym v.no-variables.ensures ∙ d.before.if1.false) d.divisor.ensures q.quotients.ensures
     (sym t.all_small.ensures ∙ c.before.if2.true))
 
 returns-3 : tie.Need-returns-3
@@ -39,11 +39,11 @@ returns-3 c =
     let d = q.before in
     let v = d.before.before in
     rw c.empty.ensures
-    (down-large v.before.args.l v.before.args.strict q.quotients.result d.divisor.result (sym v.no-variables.ensures ∙ d.before.if1.false) d.divisor.ensures q.quotients.ensures
+    (down_large v.before.args.l v.before.args.strict q.quotients.result d.divisor.result (sym v.no-variables.ensures ∙ d.before.if1.false) d.divisor.ensures q.quotients.ensures
     (sym t.all_small.ensures ∙ c.before.if2.false))
 
-pub lowered-spec : {M : Type 1} → statement M
-lowered-spec =
+pub lowered_spec : {M : Type 1} → statement M
+lowered_spec =
     tie.close
     (tie.spec
     (λ c κs. search rules)

@@ -11,15 +11,15 @@ use mir.Syntax.{w32}
 use mir.Val.{to_z, of_z}
 use Rattle.integers.proofs.Bounds.{back, bits-same}
 use Rattle.rows.specs.declared.Order.TheVariants.{Same, After}
-use Rattle.rows.specs.Rows.{then_by, number-order}
-use Rattle.rows.specs.Blocks.{four-order}
-use Rattle.rows.proofs.Ordering.{number-itself}
-use Rattle.rows.proofs.Blocks.{rest-order, rest-turn, rest-done, number-after}
+use Rattle.rows.specs.Rows.{then_by, number_order}
+use Rattle.rows.specs.Blocks.{four_order}
+use Rattle.rows.proofs.Ordering.{number_itself}
+use Rattle.rows.proofs.Blocks.{rest_order, rest_turn, rest-done, number-after}
 use Rattle.rows.proofs.order_of_four.Statement.{statement}
 use Rattle.rows.proofs.order_of_four.Tie as tie
 
 abbrev invariant-loop : tie.invariant-loop
-invariant-loop s a t b i₀ i = (i ≤ 4) × (rest-order s a t b i ≡ four-order s a t b)
+invariant-loop s a t b i₀ i = (i ≤ 4) × (rest_order s a t b i ≡ four_order s a t b)
 
 abbrev decreases-loop : tie.decreases-loop
 decreases-loop s a t b i₀ i = 4 - i
@@ -38,11 +38,11 @@ right c =
 turn : (c : tie.After-q invariant-loop decreases-loop) →
     let l = c.before.before.before in
     let z = l.before.args in
-    then_by (number-order (left c) (right c)) (rest-order z.s.now z.a z.t.now z.b (l.loop.i + 1)) ≡ four-order z.s.now z.a z.t.now z.b
+    then_by (number_order (left c) (right c)) (rest_order z.s.now z.a z.t.now z.b (l.loop.i + 1)) ≡ four_order z.s.now z.a z.t.now z.b
 turn c =
     let l = c.before.before.before in
     let z = l.before.args in
-    rest-turn z.s.now z.t.now z.a z.b l.before.requires.0 l.before.requires.1 l.loop.i c.before.before.loop-test.true ∙ l.loop.invariant.1
+    rest_turn z.s.now z.t.now z.a z.b l.before.requires.0 l.before.requires.1 l.loop.i c.before.before.loop-test.true ∙ l.loop.invariant.1
 
 -- the two numbers, as the machine reads them
 left_is : (c : tie.After-q invariant-loop decreases-loop) → to_z w32 (of_z w32 (left c)) ≡ left c
@@ -61,14 +61,14 @@ returns-2 : tie.Need-returns-2 invariant-loop decreases-loop
 returns-2 c =
     let d = c.before.before in
     let f : lt_z (left d) (right d) ≡ false = rw (left_is d, right_is d) at c.if2.false in
-    let o : number-order (left d) (right d) ≡ After = number-after (left d) (right d) (λ e. c.before.if1.true (ap (of_z w32) e)) f in
+    let o : number_order (left d) (right d) ≡ After = number-after (left d) (right d) (λ e. c.before.if1.true (ap (of_z w32) e)) f in
     rw o at (turn d)
 
 loop-again : tie.Need-loop-preserved invariant-loop decreases-loop
 loop-again c =
     let d = c.before in
     let e : left d ≡ right d = bits-same w32 (left d) (right d) d.before.p.given d.q.given c.if1.false in
-    let o : number-order (left d) (right d) ≡ Same = rw e (number-itself (right d)) in
+    let o : number_order (left d) (right d) ≡ Same = rw e (number_itself (right d)) in
     (search rules, rw o at (turn d))
 
 returns-3 : tie.Need-returns-3 invariant-loop decreases-loop
@@ -77,8 +77,8 @@ returns-3 c =
     let z = l.before.args in
     sym (rest-done z.s.now z.t.now z.a z.b l.before.requires.0 l.before.requires.1 l.loop.i c.loop-test.false) ∙ l.loop.invariant.1
 
-pub order-of-four-spec : {M : Type 1} → statement M
-order-of-four-spec =
+pub order_of_four_spec : {M : Type 1} → statement M
+order_of_four_spec =
     tie.close
     (tie.spec invariant-loop decreases-loop
     (λ c. (search rules, refl))

@@ -4,15 +4,15 @@ use mathlib.Core.Bool.{◌&&◌}
 use Prim.Native.Nat.{◌-◌, ◌≤◌}
 use native.Mathlib.Omega.{arith}
 use borrow.Author.Rules.{rules}
-use Rattle.integers.proofs.Tests.{and-all}
+use Rattle.integers.proofs.Tests.{and_all}
 use Rattle.rows.specs.Rows.{is_same}
-use Rattle.rows.specs.Blocks.{four-order}
-use Rattle.rows.proofs.Blocks.{rest-order, rest-done, same_turn}
+use Rattle.rows.specs.Blocks.{four_order}
+use Rattle.rows.proofs.Blocks.{rest_order, rest-done, same_turn}
 use Rattle.rows.proofs.same_four.Statement.{statement}
 use Rattle.rows.proofs.same_four.Tie as tie
 
 abbrev invariant-loop : tie.invariant-loop
-invariant-loop s a t b same₀ i₀ same i = (i ≤ 4) × ((same && is_same (rest-order s a t b i)) ≡ is_same (four-order s a t b))
+invariant-loop s a t b same₀ i₀ same i = (i ≤ 4) × ((same && is_same (rest_order s a t b i)) ≡ is_same (four_order s a t b))
 
 abbrev decreases-loop : tie.decreases-loop
 decreases-loop s a t b same₀ i₀ same i = 4 - i
@@ -32,10 +32,10 @@ returns c =
     let l = c.before in
     let z = l.before.args in
     let p = l.before.requires in
-    and-all l.loop.same _ (ap is_same (rest-done z.s.now z.t.now z.a z.b p.0 p.1 l.loop.i c.loop-test.false)) ∙ l.loop.invariant.1
+    and_all l.loop.same _ (ap is_same (rest-done z.s.now z.t.now z.a z.b p.0 p.1 l.loop.i c.loop-test.false)) ∙ l.loop.invariant.1
 
-pub same-four-spec : {M : Type 1} → statement M
-same-four-spec =
+pub same_four_spec : {M : Type 1} → statement M
+same_four_spec =
     tie.close
     (tie.spec invariant-loop decreases-loop
     (λ c. (search rules, refl))

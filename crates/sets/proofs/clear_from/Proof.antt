@@ -39,8 +39,8 @@ returns c =
     let z = l.before.args in
     clear-done z.s.now l.loop.s (z.row * 17) l.loop.i l.loop.invariant.0 l.loop.invariant.3 (omega arith)
 
-pub clear-from-spec : {M : Type 1} → statement M
-clear-from-spec =
+pub clear_from_spec : {M : Type 1} → statement M
+clear_from_spec =
     tie.close
     (tie.spec invariant-loop decreases-loop
     (λ c. omega arith)

@@ -5,7 +5,7 @@ use native.Mathlib.Omega.{arith}
 use borrow.Author.Rules.{rules}
 use borrow.Author.Tests.{not-true, not-false}
 use Rattle.rows.specs.Rows.{row_at}
-use Rattle.sets.proofs.Comparing.{rows_agree, rows-differ, rows_more}
+use Rattle.sets.proofs.Comparing.{rows_agree, rows_differ, rows_more}
 use Rattle.sets.proofs.equal.Statement.{statement}
 use Rattle.sets.proofs.equal.Tie as tie
 
@@ -21,7 +21,7 @@ returns c =
     let l = f.before.before in
     let z = l.before.args in
     let p = l.before.requires in
-    rows-differ z.x.now z.y.now z.a z.b z.n p.0 p.1 (l.loop.k - 1) (omega arith) (sym f.same_numbers.ensures ∙ not-true f.same_numbers.result c.if1.true)
+    rows_differ z.x.now z.y.now z.a z.b z.n p.0 p.1 (l.loop.k - 1) (omega arith) (sym f.same_numbers.ensures ∙ not-true f.same_numbers.result c.if1.true)
 
 loop-again : tie.Need-loop-preserved invariant-loop decreases-loop
 loop-again c =
@@ -40,8 +40,8 @@ returns-2 c =
     let e : l.loop.k ≡ 0 = omega arith in
     rows_agree z.x.now z.y.now z.a z.b z.n (rw e at l.loop.invariant.1)
 
-pub equal-spec : {M : Type 1} → statement M
-equal-spec =
+pub equal_spec : {M : Type 1} → statement M
+equal_spec =
     tie.close
     (tie.spec invariant-loop decreases-loop
     (λ c. (search rules, λ i h k. absurd (omega arith)))

@@ -12,17 +12,17 @@ use lib.Signed.{◌<ℤ◌, lt_z_yes}
 use mir.Syntax.{w32}
 use Rattle.integers.proofs.Bounds.{back}
 use Rattle.integers.proofs.Tests.{T_of}
-use Rattle.rows.specs.Rows.{empty-row, false-row, row_at}
+use Rattle.rows.specs.Rows.{empty_row, false_row, row_at}
 use Rattle.rows.proofs.Stores.{get_d_part}
-use Rattle.sets.specs.Sets.{stands-in}
-use Rattle.sets.specs.Stores.{rows_at, set-in}
-use Rattle.sets.proofs.Stores.{length-rows-at, getD-rows-at}
-use Rattle.sets.proofs.Places.{behind-last, false-after}
+use Rattle.sets.specs.Sets.{stands_in}
+use Rattle.sets.specs.Stores.{rows_at, set_in}
+use Rattle.sets.proofs.Stores.{length-rows_at, getD_rows_at}
+use Rattle.sets.proofs.Places.{behind_last, false-after}
 use Rattle.sets.proofs.has_false.Statement.{statement}
 use Rattle.sets.proofs.has_false.Tie as tie
 
 returns : tie.Need-returns
-unfolding stands-in rows_at
+unfolding stands_in rows_at
 returns c = rw c.if1.true refl
 
 -- the last row's constant, as it stands in the store
@@ -38,14 +38,14 @@ returns-2 c =
     let x = get_or s m (pos 0) in
     let some : n - 1 < n = omega arith in
     let below : x <ℤ pos 1 = lt_z_yes (T_of (rw (back w32 x c.before.if22.given) at c.if2.true)) in
-    let last : get_or (set-in s n) (n - 1) empty-row ≡ row_at s m = rw zero-add at (getD-rows-at s 0 n (n - 1) empty-row some) in
-    behind-last false-row b.requires.ordered empty-row (n - 1) (omega (arith, length-rows-at s 0 n)) (rw last (false-after (row_at s m) (rw (first_entry s m) below)))
+    let last : get_or (set_in s n) (n - 1) empty_row ≡ row_at s m = rw zero-add at (getD_rows_at s 0 n (n - 1) empty_row some) in
+    behind_last false_row b.requires.ordered empty_row (n - 1) (omega (arith, length-rows_at s 0 n)) (rw last (false-after (row_at s m) (rw (first_entry s m) below)))
 
 returns-3 : tie.Need-returns-3
-returns-3 c = rw c.before.falsehood.ensures at c.stands-in.ensures
+returns-3 c = rw c.before.falsehood.ensures at c.stands_in.ensures
 
-pub has-false-spec : {M : Type 1} → statement M
-has-false-spec = tie.close (tie.spec
+pub has_false_spec : {M : Type 1} → statement M
+has_false_spec = tie.close (tie.spec
     returns
     (λ c. search rules)
     (λ c. search rules)

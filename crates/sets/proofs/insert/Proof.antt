@@ -5,13 +5,13 @@ use native.Mathlib.Numerals.{lt_of_le_of_ne}
 use native.Mathlib.Omega.{arith}
 use borrow.Author.Rules.{rules}
 use Rattle.rows.specs.declared.Row.{Row}
-use Rattle.rows.specs.Rows.{set-rows, row_at}
+use Rattle.rows.specs.Rows.{set_rows, row_at}
 use Rattle.sets.specs.declared.Place.TheVariants.{At}
 use Rattle.sets.specs.Sets.{place_of}
-use Rattle.sets.specs.Stores.{set-in}
-use Rattle.sets.proofs.Stores.{length-rows-at, wide-row-at}
+use Rattle.sets.specs.Stores.{set_in}
+use Rattle.sets.proofs.Stores.{length-rows_at, wide-row_at}
 use Rattle.sets.proofs.Places.{place-within}
-use Rattle.sets.proofs.Steps.{left-standing, left-full, left-inserted}
+use Rattle.sets.proofs.Steps.{left-standing, left_full, left_inserted}
 use Rattle.sets.proofs.insert.Statement.{statement}
 use Rattle.sets.proofs.insert.Tie as tie
 
@@ -25,13 +25,13 @@ start c = c.before.before.before.before
 abbrev place : tie.After-place → ℕ
 place c = c.place.given.0.0
 
-placed : (c : tie.After-place) → At (place c) ≡ place_of (row (start c)) (set-in (start c).args.s.now (start c).args.n)
+placed : (c : tie.After-place) → At (place c) ≡ place_of (row (start c)) (set_in (start c).args.s.now (start c).args.n)
 placed c = sym c.place.given.1 ∙ c.before.before.find.ensures
 
 within : (c : tie.After-place) → place c ≤ (start c).args.n
-within c = rw length-rows-at at (place-within (row (start c)) (set-in (start c).args.s.now (start c).args.n) (place c) (placed c))
+within c = rw length-rows_at at (place-within (row (start c)) (set_in (start c).args.s.now (start c).args.n) (place c) (placed c))
 
-few : (c : tie.Else1) → (start c.before.before).args.n < set-rows
+few : (c : tie.Else1) → (start c.before.before).args.n < set_rows
 few c = lt_of_le_of_ne (start c.before.before).requires.0.few c.if1.false
 
 shift-up-requires : tie.Need-shift-up-requires
@@ -49,7 +49,7 @@ returns : tie.Need-returns
 returns c =
     let p = c.before.before in
     let b = start p in
-    left-full b.args.s.now b.args.n (row b) b.pre.0 (place p) (placed p) c.if1.true
+    left_full b.args.s.now b.args.n (row b) b.pre.0 (place p) (placed p) c.if1.true
 
 returns-2 : tie.Need-returns-2
 returns-2 c =
@@ -65,11 +65,11 @@ returns-3 c =
     let e = u.before.before in
     let p = e.before.before in
     let b = start p in
-    left-inserted b.args.s.now b.args.n (row b) b.pre.0 (place p) (placed p) (wide-row-at b.args.x.now b.args.at b.pre.1) (few e) _ _
+    left_inserted b.args.s.now b.args.n (row b) b.pre.0 (place p) (placed p) (wide-row_at b.args.x.now b.args.at b.pre.1) (few e) _ _
     u.shift-up.ensures (rw r.read.ensures at w.write.ensures)
 
-pub insert-spec : {M : Type 1} → statement M
-insert-spec =
+pub insert_spec : {M : Type 1} → statement M
+insert_spec =
     tie.close
     (tie.spec
     (λ c κs. search rules)

@@ -5,12 +5,12 @@ use mathlib.Core.List.{[]}
 use borrow.Author.Rules.{rules}
 use Rattle.rows.specs.declared.Row.{Row}
 use Rattle.rows.specs.declared.Settled.{Settled}
-use Rattle.rows.specs.Rows.{all_small, divided-down, has_one, row_at}
-use Rattle.rows.proofs.Adding.{has-one-limited, limited-kept, limited-large}
-use Rattle.rows.proofs.Dividing.{settled-wide}
+use Rattle.rows.specs.Rows.{all_small, divided_down, has_one, row_at}
+use Rattle.rows.proofs.Adding.{has_one-limited, limited-kept, limited_large}
+use Rattle.rows.proofs.Dividing.{settled_wide}
 use Rattle.rows.proofs.Stores.{row_back}
-use Rattle.sets.proofs.Stores.{wide-row-at}
-use Rattle.sets.proofs.Steps.{put-large}
+use Rattle.sets.proofs.Stores.{wide-row_at}
+use Rattle.sets.proofs.Steps.{put_large}
 use Rattle.sets.proofs.join_row.Statement.{statement}
 use Rattle.sets.proofs.join_row.Tie as tie
 
@@ -26,8 +26,8 @@ returns c =
     let w = t.before in
     let h = w.before.before in
     let b = h.before.before.before in
-    let s : all_small (row b).entries ≡ true = rw h.before.before.read.ensures at (sym w.within-limit.ensures ∙ t.if2.true) in
-    rw (has-one-limited (row b) (one h) ∙ limited-kept (row b) s) c.before.put-row.ensures
+    let s : all_small (row b).entries ≡ true = rw h.before.before.read.ensures at (sym w.within_limit.ensures ∙ t.if2.true) in
+    rw (has_one-limited (row b) (one h) ∙ limited-kept (row b) s) c.before.put-row.ensures
 
 returns-2 : tie.Need-returns-2
 returns-2 c =
@@ -35,25 +35,25 @@ returns-2 c =
     let w = t.before in
     let h = w.before.before in
     let b = h.before.before.before in
-    let s : all_small (row b).entries ≡ false = rw h.before.before.read.ensures at (sym w.within-limit.ensures ∙ t.if2.false) in
-    let e = has-one-limited (row b) (one h) ∙ limited-large (row b) s in
-    rw c.refused.ensures (put-large b.args.to.now b.args.c (divided-down (row b)).row (divided-down (row b)).fate (ap (λ (x : Settled). x.fate) e))
+    let s : all_small (row b).entries ≡ false = rw h.before.before.read.ensures at (sym w.within_limit.ensures ∙ t.if2.false) in
+    let e = has_one-limited (row b) (one h) ∙ limited_large (row b) s in
+    rw c.refused.ensures (put_large b.args.to.now b.args.c (divided_down (row b)).row (divided_down (row b)).fate (ap (λ (x : Settled). x.fate) e))
 
 -- what was written is read back
-alone : (c : tie.After-divided-into) → row_at c.divided-into.new.1.0 0 ≡ (divided-down (row c.before.before.before.before.before)).row
+alone : (c : tie.After-divided-into) → row_at c.divided-into.new.1.0 0 ≡ (divided_down (row c.before.before.before.before.before)).row
 alone c =
     let g = c.before.before.before.before in
     let b = g.before in
-    rw (c.divided-into.ensures.1, g.read.ensures) (row_back (divided-down (row b)).row [] (settled-wide (row b) (wide-row-at b.args.from.now b.args.at b.requires.0)))
+    rw (c.divided-into.ensures.1, g.read.ensures) (row_back (divided_down (row b)).row [] (settled_wide (row b) (wide-row_at b.args.from.now b.args.at b.requires.0)))
 
 returns-3 : tie.Need-returns-3
 returns-3 c =
     let p = c.before in
     let d = p.before.before.before.before in
-    rw (alone d, d.divided-into.ensures.0, d.before.before.before.before.read.ensures) at p.put-settled.ensures
+    rw (alone d, d.divided-into.ensures.0, d.before.before.before.before.read.ensures) at p.put_settled.ensures
 
-pub join-row-spec : {M : Type 1} → statement M
-join-row-spec =
+pub join_row_spec : {M : Type 1} → statement M
+join_row_spec =
     tie.close
     (tie.spec
     (λ c κs. search rules)

@@ -1,6 +1,6 @@
 -- `sets::put` meets its contract, by what became of the row. Assumes nothing.
 use borrow.Author.Rules.{rules}
-use Rattle.sets.proofs.Steps.{put-gone, put-large}
+use Rattle.sets.proofs.Steps.{put-gone, put_large}
 use Rattle.sets.proofs.put.Statement.{statement}
 use Rattle.sets.proofs.put.Tie as tie
 
@@ -13,7 +13,7 @@ returns c =
 returns-2 : tie.Need-returns-2
 returns-2 c =
     let z = c.before.before.before.before.args in
-    rw c.refused.ensures (put-large z.s.now z.c z.x.row z.x.fate c.before.enum-told2.given.1)
+    rw c.refused.ensures (put_large z.s.now z.c z.x.row z.x.fate c.before.enum-told2.given.1)
 
 returns-3 : tie.Need-returns-3
 returns-3 c = rw c.before.before.before.enum-told3.given.1 c.before.put-kept.ensures

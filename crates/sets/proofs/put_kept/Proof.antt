@@ -7,7 +7,7 @@ use Rattle.rows.specs.Rows.{row_at}
 use Rattle.rows.proofs.Dividing.{Wide}
 use Rattle.rows.proofs.Stores.{row_back}
 use Rattle.sets.proofs.Stores.{length-numbers}
-use Rattle.sets.proofs.Steps.{put_refused, put-inserted, ready-holds}
+use Rattle.sets.proofs.Steps.{put_refused, put_inserted, ready_holds}
 use Rattle.sets.proofs.put_kept.Statement.{statement}
 use Rattle.sets.proofs.put_kept.Tie as tie
 
@@ -23,7 +23,7 @@ insert-requires c κs =
     let t = c.before.before in
     let w = t.before.before.before in
     let b = w.before.before in
-    (ready-holds b.args.s.now b.args.c b.requires t.enum_told.given.1, rw (w.write.ensures, length-append, length-numbers b.args.row (wide b)) (omega arith))
+    (ready_holds b.args.s.now b.args.c b.requires t.enum_told.given.1, rw (w.write.ensures, length-append, length-numbers b.args.row (wide b)) (omega arith))
 
 returns : tie.Need-returns
 returns c =
@@ -31,7 +31,7 @@ returns c =
     let t = i.before.before.before in
     let w = t.before.before.before in
     let z = w.before.before.args in
-    rw c.counted.ensures (put-inserted z.s.now z.c z.row t.enum_told.given.1 _ _ (rw (alone w) at i.insert.ensures))
+    rw c.counted.ensures (put_inserted z.s.now z.c z.row t.enum_told.given.1 _ _ (rw (alone w) at i.insert.ensures))
 
 returns-2 : tie.Need-returns-2
 returns-2 c =
@@ -39,8 +39,8 @@ returns-2 c =
     let z = b.args in
     put_refused z.s.now z.c z.row b.requires _ c.enum-told2.given.1
 
-pub put-kept-spec : {M : Type 1} → statement M
-put-kept-spec =
+pub put_kept_spec : {M : Type 1} → statement M
+put_kept_spec =
     tie.close
     (tie.spec
     (λ c. search rules)

@@ -1,7 +1,7 @@
 -- `sets::put_settled` meets its contract, by what became of the row. Assumes nothing.
 use borrow.Author.Rules.{rules}
 use Rattle.rows.specs.Rows.{row_at}
-use Rattle.sets.proofs.Steps.{put-gone, put-large}
+use Rattle.sets.proofs.Steps.{put-gone, put_large}
 use Rattle.sets.proofs.put_settled.Statement.{statement}
 use Rattle.sets.proofs.put_settled.Tie as tie
 
@@ -14,13 +14,13 @@ returns c =
 returns-2 : tie.Need-returns-2
 returns-2 c =
     let z = c.before.before.before.args in
-    rw c.refused.ensures (put-large z.s.now z.c (row_at z.x.now 0) z.fate c.before.enum-told2.given.1)
+    rw c.refused.ensures (put_large z.s.now z.c (row_at z.x.now 0) z.fate c.before.enum-told2.given.1)
 
 returns-3 : tie.Need-returns-3
 returns-3 c = rw c.before.before.before.enum-told3.given.1 c.before.put-row.ensures
 
-pub put-settled-spec : {M : Type 1} → statement M
-put-settled-spec =
+pub put_settled_spec : {M : Type 1} → statement M
+put_settled_spec =
     tie.close
     (tie.spec
     (λ c. search rules)

@@ -4,7 +4,7 @@ use lib.Dec.{lit≤}
 use lib.ListN.{length-set}
 use mir.Facts.{to_z-of_z}
 use Rattle.rows.proofs.Units.{unit-stays}
-use Rattle.sets.proofs.Stores.{row-of-single}
+use Rattle.sets.proofs.Stores.{row_of-single}
 use Rattle.sets.proofs.put_single.Statement.{statement}
 use Rattle.sets.proofs.put_single.Tie as tie
 
@@ -15,8 +15,8 @@ returns : tie.Need-returns
 returns c =
     let p = c.before in
     let b = p.before.before.before in
-    let put = rw (to_z-of_z b.ranges.a, row-of-single b.args.v b.args.a b.requires.2) at p.put-row.ensures in
+    let put = rw (to_z-of_z b.ranges.a, row_of-single b.args.v b.args.a b.requires.2) at p.put-row.ensures in
     rw (unit-stays b.args.v b.args.a b.requires.1 b.requires.2 b.requires.3) put
 
-pub put-single-spec : {M : Type 1} → statement M
-put-single-spec = tie.close (tie.spec (λ c. search rules) (λ c. search rules) (λ c. search rules) put-row-requires (λ c. search rules) returns)
+pub put_single_spec : {M : Type 1} → statement M
+put_single_spec = tie.close (tie.spec (λ c. search rules) (λ c. search rules) (λ c. search rules) put-row-requires (λ c. search rules) returns)

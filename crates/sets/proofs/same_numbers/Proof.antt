@@ -5,14 +5,14 @@ use Prim.Native.Nat.{◌-◌, ◌≤◌}
 use native.Mathlib.Omega.{arith}
 use borrow.Author.Rules.{rules}
 use lib.ListN.{take, drop}
-use Rattle.integers.proofs.Tests.{and-all}
+use Rattle.integers.proofs.Tests.{and_all}
 use Rattle.sets.specs.Sets.{same_numbers}
-use Rattle.sets.proofs.Comparing.{rest-same, same_turn, same-done}
+use Rattle.sets.proofs.Comparing.{rest_same, same_turn, same-done}
 use Rattle.sets.proofs.same_numbers.Statement.{statement}
 use Rattle.sets.proofs.same_numbers.Tie as tie
 
 abbrev invariant-loop : tie.invariant-loop
-invariant-loop x a y b same₀ i₀ same i = (i ≤ 17) × ((same && rest-same x a y b 17 i) ≡ same_numbers (take 17 (drop a x)) (take 17 (drop b y)))
+invariant-loop x a y b same₀ i₀ same i = (i ≤ 17) × ((same && rest_same x a y b 17 i) ≡ same_numbers (take 17 (drop a x)) (take 17 (drop b y)))
 
 abbrev decreases-loop : tie.decreases-loop
 decreases-loop x a y b same₀ i₀ same i = 17 - i
@@ -32,10 +32,10 @@ returns c =
     let l = c.before in
     let z = l.before.args in
     let p = l.before.requires in
-    and-all l.loop.same _ (same-done z.x.now z.y.now z.a z.b 17 p.0 p.1 l.loop.i c.loop-test.false) ∙ l.loop.invariant.1
+    and_all l.loop.same _ (same-done z.x.now z.y.now z.a z.b 17 p.0 p.1 l.loop.i c.loop-test.false) ∙ l.loop.invariant.1
 
-pub same-numbers-spec : {M : Type 1} → statement M
-same-numbers-spec =
+pub same_numbers_spec : {M : Type 1} → statement M
+same_numbers_spec =
     tie.close
     (tie.spec invariant-loop decreases-loop
     (λ c. (search rules, refl))

@@ -44,8 +44,8 @@ returns c =
     let f : z.k * 17 + 17 + (z.n * 17 - z.k * 17) ≡ z.n * 17 + 17 = omega arith in
     rw (e, f) at l.loop.invariant.3
 
-pub shift-up-spec : {M : Type 1} → statement M
-shift-up-spec =
+pub shift_up_spec : {M : Type 1} → statement M
+shift_up_spec =
     tie.close
     (tie.spec invariant-loop decreases-loop
     loop-holds

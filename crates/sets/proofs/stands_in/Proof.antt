@@ -5,14 +5,14 @@ use Prim.Native.Nat.{◌+◌, ◌-◌, ◌*◌, ◌≤◌}
 use native.Mathlib.Nat.{zero-add, sub-zero}
 use native.Mathlib.Omega.{arith}
 use borrow.Author.Rules.{rules}
-use Rattle.sets.specs.Sets.{stands-in}
-use Rattle.sets.specs.Stores.{rows_at, set-in}
+use Rattle.sets.specs.Sets.{stands_in}
+use Rattle.sets.specs.Stores.{rows_at, set_in}
 use Rattle.sets.proofs.Steps.{rows_left, rows-done}
 use Rattle.sets.proofs.stands_in.Statement.{statement}
 use Rattle.sets.proofs.stands_in.Tie as tie
 
 abbrev invariant-loop : tie.invariant-loop
-invariant-loop s n r i₀ i = (i ≤ n) × (stands-in r (rows_at s (0 + i * 17) (n - i)) ≡ stands-in r (set-in s n))
+invariant-loop s n r i₀ i = (i ≤ n) × (stands_in r (rows_at s (0 + i * 17) (n - i)) ≡ stands_in r (set_in s n))
 
 abbrev decreases-loop : tie.decreases-loop
 decreases-loop s n r i₀ i = n - i
@@ -22,8 +22,8 @@ loop-holds c = (search rules, rw sub-zero refl)
 
 -- in a turn: the row that comes next, and the test on it
 next_row : (c : tie.After-is-at invariant-loop decreases-loop) → (let l = c.before.before in let z = l.before.args in let s = z.s.now in
-    (c.is_at.result || stands-in z.r (rows_at s (0 + (l.loop.i + 1) * 17) (z.n - (l.loop.i + 1)))) ≡ stands-in z.r (set-in s z.n))
-unfolding stands-in
+    (c.is_at.result || stands_in z.r (rows_at s (0 + (l.loop.i + 1) * 17) (z.n - (l.loop.i + 1)))) ≡ stands_in z.r (set_in s z.n))
+unfolding stands_in
 next_row c =
     let l = c.before.before in
     let z = l.before.args in
@@ -36,14 +36,14 @@ loop-again : tie.Need-loop-preserved invariant-loop decreases-loop
 loop-again c = (search rules, rw c.if1.false at (next_row c.before))
 
 returns-2 : tie.Need-returns-2 invariant-loop decreases-loop
-unfolding stands-in
+unfolding stands_in
 returns-2 c =
     let l = c.before in
     let z = l.before.args in
     rw (rows-done z.s.now 0 z.n l.loop.i (omega arith)) at l.loop.invariant.1
 
-pub stands-in-spec : {M : Type 1} → statement M
-stands-in-spec =
+pub stands_in_spec : {M : Type 1} → statement M
+stands_in_spec =
     tie.close
     (tie.spec invariant-loop decreases-loop
     loop-holds

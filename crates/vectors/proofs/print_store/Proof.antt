@@ -73,8 +73,8 @@ write-all-requires-2 c κs = search rules
 returns : tie.Need-returns invariant-loop decreases-loop
 returns c = search rules
 
-pub print-store-spec : {M : Type 1} → statement M
-print-store-spec =
+pub print_store_spec : {M : Type 1} → statement M
+print_store_spec =
     tie.close
     (tie.spec
     invariant-loop

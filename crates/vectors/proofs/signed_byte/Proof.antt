@@ -12,7 +12,7 @@ sub-result-2 c = turned-fits (255 - c.before.args.b) (omega arith)
 sub-result-3 : tie.Need-overflow-sub-result-3
 sub-result-3 c = less-fits (255 - c.before.args.b) (omega arith)
 
-pub signed-byte-spec : {M : Type 1} → statement M
-signed-byte-spec =
+pub signed_byte_spec : {M : Type 1} → statement M
+signed_byte_spec =
     tie.close
     (tie.spec (λ c. search rules) (λ c. search rules) (λ c. search rules) sub-result-2 sub-result-3 (λ c. search rules) (λ c. search rules))

@@ -12,7 +12,7 @@ sub-result-2 c = turned-fits (4294967295 - c.before.args.n) (omega arith)
 sub-result-3 : tie.Need-overflow-sub-result-3
 sub-result-3 c = less-fits (4294967295 - c.before.args.n) (omega arith)
 
-pub signed-word-spec : {M : Type 1} → statement M
-signed-word-spec =
+pub signed_word_spec : {M : Type 1} → statement M
+signed_word_spec =
     tie.close
     (tie.spec (λ c. search rules) (λ c. search rules) (λ c. search rules) sub-result-2 sub-result-3 (λ c. search rules) (λ c. search rules))

@@ -10,7 +10,7 @@ returns c = rw (lt-ltb _ _ c.if1.true)
 returns-2 : tie.Need-returns-2
 returns-2 c = rw (le-ltb _ _ c.if1.false)
 
-pub digit-of-spec : {M : Type 1} → statement M
-digit-of-spec = tie.close (tie.spec
+pub digit_of_spec : {M : Type 1} → statement M
+digit_of_spec = tie.close (tie.spec
     (λ c. search rules) returns
     (λ c. search rules) returns-2)

@@ -9,7 +9,7 @@ use lib.Signed.{lt_z}
 use mir.Syntax.{w64}
 use mir.Val.{to_z, of_z}
 use mir.Facts.{to_z-of_z}
-use Rattle.integers.proofs.Bounds.{back, nonNeg-of}
+use Rattle.integers.proofs.Bounds.{back, nonNeg_of}
 use Rattle.frames.specs.Hex.{pattern}
 use Rattle.frames.proofs.Overwriting.{up_is, same-is}
 use Rattle.frames.proofs.answers.pattern.Statement.{statement}
@@ -38,12 +38,12 @@ returns : tie.Need-returns
 returns c = let u = up c in rw (u.0, to_z-of_z {w = w64} {z = pos (pattern c.before.before.args.z)} (record { sfits = omega arith })) (refl, u.1)
 
 cast-result-2 : tie.Need-overflow-cast-result-2
-cast-result-2 c = let s = same-is c.before.args.z (not-below c) c.before.ranges.z.sfits in rw (to_z-of_z c.before.ranges.z) (nonNeg-of c.before.args.z (not-below c), omega arith)
+cast-result-2 c = let s = same-is c.before.args.z (not-below c) c.before.ranges.z.sfits in rw (to_z-of_z c.before.ranges.z) (nonNeg_of c.before.args.z (not-below c), omega arith)
 
 returns-2 : tie.Need-returns-2
 returns-2 c = rw (to_z-of_z c.before.ranges.z) (same-is c.before.args.z (not-below c) c.before.ranges.z.sfits)
 
-pub pattern-spec : {M : Type 1} → statement M
-pattern-spec =
+pub pattern_spec : {M : Type 1} → statement M
+pattern_spec =
     tie.close (tie.spec
     (λ c κs. search rules) add-up cast-result returns cast-result-2 returns-2)

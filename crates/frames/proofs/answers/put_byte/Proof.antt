@@ -2,7 +2,7 @@
 use native.Mathlib.Omega.{arith}
 use borrow.Author.Rules.{rules}
 use lib.ListN.{length-set}
-use Rattle.frames.proofs.Overwriting.{wrote-byte}
+use Rattle.frames.proofs.Overwriting.{wrote_byte}
 use Rattle.frames.proofs.answers.put_byte.Statement.{statement}
 use Rattle.frames.proofs.answers.put_byte.Tie as tie
 
@@ -10,10 +10,10 @@ slice-write-to-2 : tie.Need-slice-write-to-2
 slice-write-to-2 c = simp length-set (omega arith)
 
 returns : tie.Need-returns
-returns c = let s = c.before.before.before in wrote-byte s.args.at s.args.to.now s.args.b _ _ s.requires c.before.digit-of.ensures c.digit-of2.ensures
+returns c = let s = c.before.before.before in wrote_byte s.args.at s.args.to.now s.args.b _ _ s.requires c.before.digit_of.ensures c.digit-of2.ensures
 
-pub put-byte-spec : {M : Type 1} → statement M
-put-byte-spec =
+pub put_byte_spec : {M : Type 1} → statement M
+put_byte_spec =
     tie.close (tie.spec
     (λ c κs. search rules)
     (λ c. search rules)

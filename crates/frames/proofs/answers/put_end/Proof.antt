@@ -7,8 +7,8 @@ use Rattle.frames.proofs.answers.put_end.Tie as tie
 returns : tie.Need-returns
 returns c = let s = c in wrote_one s.args.at s.args.to.now 10 s.requires
 
-pub put-end-spec : {M : Type 1} → statement M
-put-end-spec = tie.close (tie.spec
+pub put_end_spec : {M : Type 1} → statement M
+put_end_spec = tie.close (tie.spec
     (λ c. search rules)
     (λ c. search rules)
     (λ c. search rules) returns)

@@ -18,7 +18,7 @@ returns c =
     let s = a.before.before.before in
     rw (four_bytes s.args.n) (wrote_then _ _ s.args.at _ _ s.args.to.now _ _ (omega arith) a.put_two.ensures b.put-two2.ensures)
 
-pub put-four-spec : {M : Type 1} → statement M
-put-four-spec = tie.close (tie.spec
+pub put_four_spec : {M : Type 1} → statement M
+put_four_spec = tie.close (tie.spec
     (λ c κs. search rules) put-two-requires-2
     (λ c. search rules) returns)

@@ -5,7 +5,7 @@ use borrow.Author.Rules.{rules}
 use mathlib.Core.List.{◌∷◌, [], ◌++◌}
 use mathlib.Core.Bool.{cond}
 use Rattle.frames.specs.Hex.{digits_of, big_endian}
-use Rattle.frames.proofs.Overwriting.{wrote_then, head-digits}
+use Rattle.frames.proofs.Overwriting.{wrote_then, head_digits}
 use Rattle.frames.proofs.answers.put_head.Statement.{statement}
 use Rattle.frames.proofs.answers.put_head.Tie as tie
 
@@ -37,10 +37,10 @@ returns c =
     let to = s.args.to.now in
     let f : ℕ = cond s.args.strict 1 0 in
     let two = wrote_then (digits_of (big_endian 2 768)) (digits_of (big_endian 2 f)) a _ _ to _ _ (omega (arith, s.requires)) t.put_two.ensures (rw n.number_of_lem.ensures at u.put-two2.ensures) in
-    rw (head-digits s.args.strict s.args.terms) (wrote_then (digits_of (big_endian 2 768) ++ digits_of (big_endian 2 f)) (digits_of (s.args.terms ∷ [])) a _ _ to _ _ (omega (arith, s.requires)) two p.put_byte.ensures)
+    rw (head_digits s.args.strict s.args.terms) (wrote_then (digits_of (big_endian 2 768) ++ digits_of (big_endian 2 f)) (digits_of (s.args.terms ∷ [])) a _ _ to _ _ (omega (arith, s.requires)) two p.put_byte.ensures)
 
-pub put-head-spec : {M : Type 1} → statement M
-put-head-spec =
+pub put_head_spec : {M : Type 1} → statement M
+put_head_spec =
     tie.close (tie.spec
     (λ c κs. search rules)
     (λ c κs. search rules)

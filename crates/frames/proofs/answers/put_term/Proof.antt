@@ -42,8 +42,8 @@ returns-2 c =
     (wrote_then (digits_of (s.args.i ∷ [])) (digits_of (big_endian 4 (pattern s.args.z))) s.args.at _ _ s.args.to.now _ _ (omega (arith, room e)) b.put_byte.ensures
     (rw (rw (to_z-of_z s.ranges.z) at f.before.pattern.ensures.0) at f.put_four.ensures))
 
-pub put-term-spec : {M : Type 1} → statement M
-put-term-spec =
+pub put_term_spec : {M : Type 1} → statement M
+put_term_spec =
     tie.close (tie.spec
     returns
     (λ c. search rules)

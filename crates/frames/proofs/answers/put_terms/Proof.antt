@@ -9,13 +9,13 @@ use lib.IntN.{ℤ, pos}
 use mir.Syntax.{w32}
 use Rattle.integers.proofs.Bounds.{back}
 use Rattle.frames.specs.Hex.{digits_of}
-use Rattle.frames.specs.Writing.{term-bytes, terms-of}
-use Rattle.frames.proofs.Overwriting.{terms-digits, terms-done, Going, going-first, going_on, going_end}
+use Rattle.frames.specs.Writing.{term_bytes, terms_of}
+use Rattle.frames.proofs.Overwriting.{terms_digits, terms-done, Going, going_first, going_on, going_end}
 use Rattle.frames.proofs.answers.put_terms.Statement.{statement}
 use Rattle.frames.proofs.answers.put_terms.Tie as tie
 
 abbrev invariant-loop : tie.invariant-loop
-invariant-loop to₀ at e next₀ i₀ to next i = (i ≤ 16) × (length to ≡ length to₀) × Going (digits_of (terms-of 0 e)) at to₀ (digits_of (terms-of i (drop i e))) next to
+invariant-loop to₀ at e next₀ i₀ to next i = (i ≤ 16) × (length to ≡ length to₀) × Going (digits_of (terms_of 0 e)) at to₀ (digits_of (terms_of i (drop i e))) next to
 
 abbrev decreases-loop : tie.decreases-loop
 decreases-loop to₀ at e next₀ i₀ to next i = 16 - i
@@ -31,9 +31,9 @@ module _ (l : tie.At-loop invariant-loop decreases-loop) where
   abbrev z : ℤ
   z = get_or e l.loop.i (pos 0)
 
-  now-digits : l.loop.i < 16 → Going (digits_of (terms-of 0 e)) l.before.before.args.at l.before.before.args.to.now
-      (digits_of (term-bytes l.loop.i z) ++ digits_of (terms-of (l.loop.i + 1) (drop (l.loop.i + 1) e))) l.loop.next l.loop.to
-  now-digits h = rw (terms-digits e l.loop.i (omega (arith, long l.before.before))) at l.loop.inv.2
+  now-digits : l.loop.i < 16 → Going (digits_of (terms_of 0 e)) l.before.before.args.at l.before.before.args.to.now
+      (digits_of (term_bytes l.loop.i z) ++ digits_of (terms_of (l.loop.i + 1) (drop (l.loop.i + 1) e))) l.loop.next l.loop.to
+  now-digits h = rw (terms_digits e l.loop.i (omega (arith, long l.before.before))) at l.loop.inv.2
 
 put-term-requires : tie.Need-put-term-requires invariant-loop decreases-loop
 put-term-requires c κs =
@@ -41,10 +41,10 @@ put-term-requires c κs =
     let h : l.loop.i < 16 = omega arith in
     let g = now-digits l h in
     rw (back w32 (z l) c.put-term-arg2.given)
-    (h, omega (arith, g.place, g.long, l.before.before.requires, length-append (digits_of (term-bytes l.loop.i (z l))) (digits_of (terms-of (l.loop.i + 1) (drop (l.loop.i + 1) (e l))))))
+    (h, omega (arith, g.place, g.long, l.before.before.requires, length-append (digits_of (term_bytes l.loop.i (z l))) (digits_of (terms_of (l.loop.i + 1) (drop (l.loop.i + 1) (e l))))))
 
 loop-holds : tie.Need-loop-init invariant-loop decreases-loop
-loop-holds c = (search rules, refl, going-first _ _ _)
+loop-holds c = (search rules, refl, going_first _ _ _)
 
 loop-again : tie.Need-loop-preserved invariant-loop decreases-loop
 loop-again c =
@@ -53,7 +53,7 @@ loop-again c =
     let s = l.before.before in
     let h : l.loop.i < 16 = omega arith in
     let w = rw (back w32 (z l) t.before.put-term-arg2.given) at t.put-term.ensures in
-    let g = going_on _ s.args.at s.args.to.now (digits_of (term-bytes l.loop.i (z l))) (digits_of (terms-of (l.loop.i + 1) (drop (l.loop.i + 1) (e l)))) _ _ _ _ s.requires (now-digits l h) w in
+    let g = going_on _ s.args.at s.args.to.now (digits_of (term_bytes l.loop.i (z l))) (digits_of (terms_of (l.loop.i + 1) (drop (l.loop.i + 1) (e l)))) _ _ _ _ s.requires (now-digits l h) w in
     (omega arith, g.long, g)
 
 returns : tie.Need-returns invariant-loop decreases-loop
@@ -63,8 +63,8 @@ returns c =
     let s = l.before.before in
     going_end _ s.args.at s.args.to.now l.loop.next l.loop.to (rw (terms-done (e l) l.loop.i (omega (arith, long s))) at l.loop.invariant.2)
 
-pub put-terms-spec : {M : Type 1} → statement M
-put-terms-spec =
+pub put_terms_spec : {M : Type 1} → statement M
+put_terms_spec =
     tie.close (tie.spec
     invariant-loop
     decreases-loop

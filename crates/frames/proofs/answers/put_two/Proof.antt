@@ -18,8 +18,8 @@ returns c =
     let s = a.before.before.before in
     rw (two_bytes s.args.n) (wrote_then _ _ s.args.at _ _ s.args.to.now _ _ (omega arith) a.put_byte.ensures b.put-byte2.ensures)
 
-pub put-two-spec : {M : Type 1} → statement M
-put-two-spec =
+pub put_two_spec : {M : Type 1} → statement M
+put_two_spec =
     tie.close (tie.spec
     (λ c. search rules)
     (λ c κs. search rules)

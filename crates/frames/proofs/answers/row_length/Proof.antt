@@ -6,10 +6,10 @@ use Rattle.frames.proofs.answers.row_length.Statement.{statement}
 use Rattle.frames.proofs.answers.row_length.Tie as tie
 
 returns : tie.Need-returns
-returns c = let t = c.term-number.ensures in (omega (arith, line-length c.before.before.args.r), omega arith)
+returns c = let t = c.term_number.ensures in (omega (arith, line-length c.before.before.args.r), omega arith)
 
-pub row-length-spec : {M : Type 1} → statement M
-row-length-spec = tie.close (tie.spec
+pub row_length_spec : {M : Type 1} → statement M
+row_length_spec = tie.close (tie.spec
     (λ c κs. search rules)
     (λ c. search rules)
     (λ c. search rules) returns)

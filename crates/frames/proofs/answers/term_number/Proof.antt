@@ -7,8 +7,8 @@ use lib.ListN.{length, get_or, drop}
 use lib.IntN.{pos}
 use mir.Syntax.{w32}
 use Rattle.integers.proofs.Bounds.{back}
-use Rattle.frames.specs.Writing.{term-number}
-use Rattle.frames.proofs.Overwriting.{number-turn, number-done}
+use Rattle.frames.specs.Writing.{term_number}
+use Rattle.frames.proofs.Overwriting.{number_turn, number-done}
 use Rattle.frames.proofs.answers.term_number.Statement.{statement}
 use Rattle.frames.proofs.answers.term_number.Tie as tie
 
@@ -16,7 +16,7 @@ zero-plus : (n : ℕ) → 0 + n ≡ n
 zero-plus n = omega arith
 
 abbrev invariant-loop : tie.invariant-loop
-invariant-loop e n₀ i₀ n i = (i ≤ 16) × (n ≤ i) × (n + term-number (drop i e) ≡ term-number e)
+invariant-loop e n₀ i₀ n i = (i ≤ 16) × (n ≤ i) × (n + term_number (drop i e) ≡ term_number e)
 
 abbrev decreases-loop : tie.decreases-loop
 decreases-loop e n₀ i₀ n i = 16 - i
@@ -33,15 +33,15 @@ loop-again c =
     let e = l.before.args.t1 in
     let z = get_or e l.loop.i (pos 0) in
     let is = rw (back w32 z c.before.counted-arg.given) at c.counted.ensures.0 in
-    (search rules, omega (arith, c.counted.ensures.1), rw is (number-turn e l.loop.i l.loop.n (omega (arith, long l.before))) ∙ l.loop.invariant.2)
+    (search rules, omega (arith, c.counted.ensures.1), rw is (number_turn e l.loop.i l.loop.n (omega (arith, long l.before))) ∙ l.loop.invariant.2)
 
 returns : tie.Need-returns invariant-loop decreases-loop
 returns c =
     let l = c.before in
     (number-done l.before.args.t1 l.loop.i l.loop.n (omega (arith, long l.before)) ∙ l.loop.invariant.2, omega arith)
 
-pub term-number-spec : {M : Type 1} → statement M
-term-number-spec =
+pub term_number_spec : {M : Type 1} → statement M
+term_number_spec =
     tie.close (tie.spec
     invariant-loop
     decreases-loop

@@ -26,8 +26,8 @@ returns-2 c =
     let z = negsuc (2 ^ 32 - suc c.before.args.n) in
     rw (less c, to_z-of_z {w = w64} {z = z} (record { sfits = omega arith }), to_z-of_z {w = w32} {z = z} (record { sfits = omega arith })) (sym (signed_below c.before.args.n c.if1.false c.before.requires))
 
-pub as-signed-spec : {M : Type 1} → statement M
-as-signed-spec =
+pub as_signed_spec : {M : Type 1} → statement M
+as_signed_spec =
     tie.close (tie.spec
     (λ c. search rules)
     (λ c. search rules)

@@ -26,6 +26,6 @@ returns-5 : tie.Need-returns-5
 unfolding digit
 returns-5 c = let x = c.before.before.before.before.args.c in rw (le-leb 48 x (omega arith), lt-leb x 57 (omega arith), le-leb 65 x (omega arith), lt-leb x 70 (omega arith))
 
-pub digit-spec : {M : Type 1} → statement M
-digit-spec = tie.close (tie.spec returns returns-2 returns-3
+pub digit_spec : {M : Type 1} → statement M
+digit_spec = tie.close (tie.spec returns returns-2 returns-3
     (λ c. search rules) returns-4 returns-5)

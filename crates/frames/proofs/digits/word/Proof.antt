@@ -16,8 +16,8 @@ returns c =
     let h = l.before.before.before.before in
     back w32 r.result r.type-inv ∙ (rw (h.before.before.wide.ensures.0, h.wide2.ensures.0, l.before.before.wide3.ensures.0, l.wide4.ensures.0, halves) at r.ensures)
 
-pub word-spec : {M : Type 1} → statement M
-word-spec =
+pub word_spec : {M : Type 1} → statement M
+word_spec =
     tie.close (tie.spec
     (λ c. search rules)
     (λ c κs. search rules)

@@ -15,8 +15,8 @@ returns c =
     let e = back w64 w.wide.result w.wide.type-inv ∙ w.wide.ensures ∙ back w32 z w.before.ranges.z.sfits in
     rw (zero-read w32 z w.before.ranges.z.sfits, m.magnitude.ensures, e) at c.both.ensures
 
-pub coefficient-fits-spec : {M : Type 1} → statement M
-coefficient-fits-spec = tie.close (tie.spec
+pub coefficient_fits_spec : {M : Type 1} → statement M
+coefficient_fits_spec = tie.close (tie.spec
     (λ c κs. search rules)
     (λ c κs. search rules)
     (λ c κs. search rules) returns)

@@ -10,16 +10,16 @@ use lib.ListN.{drop}
 use mir.Syntax.{w32}
 use Rattle.integers.specs.Lists.{every, from}
 use Rattle.integers.proofs.Bounds.{back}
-use Rattle.frames.specs.Reading.{term-count, term-coefficient, coefficient-fits}
-use Rattle.frames.proofs.Counting.{count-stops, count_turn, count-done}
+use Rattle.frames.specs.Reading.{term_count, term_coefficient, coefficient_fits}
+use Rattle.frames.proofs.Counting.{count_stops, count_turn, count-done}
 use Rattle.frames.proofs.frames.coefficients_fit.Statement.{statement}
 use Rattle.frames.proofs.frames.coefficients_fit.Tie as tie
 
 abbrev test : List ℕ → ℕ → Bool
-test b i = coefficient-fits (term-coefficient b i)
+test b i = coefficient_fits (term_coefficient b i)
 
 abbrev invariant-loop : tie.invariant-loop
-invariant-loop b i₀ i-end i = (i ≤ i-end) × (every (test b) (drop i (from 0 (term-count b))) ≡ every (test b) (from 0 (term-count b)))
+invariant-loop b i₀ i-end i = (i ≤ i-end) × (every (test b) (drop i (from 0 (term_count b))) ≡ every (test b) (from 0 (term_count b)))
 
 abbrev decreases-loop : tie.decreases-loop
 decreases-loop b i₀ i-end i = i-end - i
@@ -27,8 +27,8 @@ decreases-loop b i₀ i-end i = i-end - i
 abbrev b : tie.At-loop invariant-loop decreases-loop → List ℕ
 b l = l.before.before.before.args.b.now
 
-read : (c : tie.After-coefficient-fits invariant-loop decreases-loop) → let l = c.before.before.before in c.coefficient-fits.result ≡ test (b l) l.loop.i
-read c = let t = c.before.term-coefficient in rw (back w32 t.result t.type-inv, t.ensures) at c.coefficient-fits.ensures
+read : (c : tie.After-coefficient-fits invariant-loop decreases-loop) → let l = c.before.before.before in c.coefficient_fits.result ≡ test (b l) l.loop.i
+read c = let t = c.before.term_coefficient in rw (back w32 t.result t.type-inv, t.ensures) at c.coefficient_fits.ensures
 
 loop-holds : tie.Need-loop-init invariant-loop decreases-loop
 loop-holds c = (search rules, refl)
@@ -36,24 +36,24 @@ loop-holds c = (search rules, refl)
 returns : tie.Need-returns invariant-loop decreases-loop
 returns c =
     let l = c.before.before.before.before in
-    count-stops (test (b l)) (term-count (b l)) l.loop.i (omega (arith, l.before.term-count.ensures))
-    (sym (read c.before) ∙ not-true c.before.coefficient-fits.result c.if1.true) ∙ l.loop.invariant.1
+    count_stops (test (b l)) (term_count (b l)) l.loop.i (omega (arith, l.before.term_count.ensures))
+    (sym (read c.before) ∙ not-true c.before.coefficient_fits.result c.if1.true) ∙ l.loop.invariant.1
 
 loop-again : tie.Need-loop-preserved invariant-loop decreases-loop
 loop-again c =
     let l = c.before.before.before.before in (
       search rules,
-      count_turn (test (b l)) (term-count (b l)) l.loop.i (omega (arith, l.before.term-count.ensures))
-          (sym (read c.before) ∙ not-false c.before.coefficient-fits.result c.if1.false) ∙ l.loop.invariant.1,
+      count_turn (test (b l)) (term_count (b l)) l.loop.i (omega (arith, l.before.term_count.ensures))
+          (sym (read c.before) ∙ not-false c.before.coefficient_fits.result c.if1.false) ∙ l.loop.invariant.1,
     )
 
 returns-2 : tie.Need-returns-2 invariant-loop decreases-loop
 returns-2 c =
     let l = c.before in
-    count-done (test (b l)) (term-count (b l)) l.loop.i (omega (arith, l.before.term-count.ensures)) ∙ l.loop.invariant.1
+    count-done (test (b l)) (term_count (b l)) l.loop.i (omega (arith, l.before.term_count.ensures)) ∙ l.loop.invariant.1
 
-pub coefficients-fit-spec : {M : Type 1} → statement M
-coefficients-fit-spec =
+pub coefficients_fit_spec : {M : Type 1} → statement M
+coefficients_fit_spec =
     tie.close (tie.spec
     invariant-loop
     decreases-loop

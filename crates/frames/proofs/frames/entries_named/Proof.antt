@@ -9,17 +9,17 @@ use mathlib.Core.List.{List}
 use lib.ListN.{get_or, drop}
 use Rattle.integers.specs.Lists.{every, from}
 use Rattle.models.specs.declared.Header.{Header}
-use Rattle.models.specs.Acceptance.{entry-declared}
-use Rattle.frames.specs.Reading.{term-count, term-entry}
-use Rattle.frames.proofs.Counting.{count-stops, count_turn, count-done}
+use Rattle.models.specs.Acceptance.{entry_declared}
+use Rattle.frames.specs.Reading.{term_count, term_entry}
+use Rattle.frames.proofs.Counting.{count_stops, count_turn, count-done}
 use Rattle.frames.proofs.frames.entries_named.Statement.{statement}
 use Rattle.frames.proofs.frames.entries_named.Tie as tie
 
 abbrev test : Header → List ℕ → ℕ → Bool
-test h b i = entry-declared h (get_or b 0 0) (term-entry b i)
+test h b i = entry_declared h (get_or b 0 0) (term_entry b i)
 
 abbrev invariant-loop : tie.invariant-loop
-invariant-loop b h kind i₀ i-end i = (i ≤ i-end) × (every (test h b) (drop i (from 0 (term-count b))) ≡ every (test h b) (from 0 (term-count b)))
+invariant-loop b h kind i₀ i-end i = (i ≤ i-end) × (every (test h b) (drop i (from 0 (term_count b))) ≡ every (test h b) (from 0 (term_count b)))
 
 abbrev decreases-loop : tie.decreases-loop
 decreases-loop b h kind i₀ i-end i = i-end - i
@@ -30,8 +30,8 @@ b l = l.before.before.before.before.args.b.now
 abbrev h : tie.At-loop invariant-loop decreases-loop → Header
 h l = l.before.before.before.before.args.h
 
-read : (c : tie.After-entry-declared invariant-loop decreases-loop) → let l = c.before.before.before in c.entry-declared.result ≡ test (h l) (b l) l.loop.i
-read c = rw c.before.term-entry.ensures.0 at c.entry-declared.ensures
+read : (c : tie.After-entry-declared invariant-loop decreases-loop) → let l = c.before.before.before in c.entry_declared.result ≡ test (h l) (b l) l.loop.i
+read c = rw c.before.term_entry.ensures.0 at c.entry_declared.ensures
 
 loop-holds : tie.Need-loop-init invariant-loop decreases-loop
 loop-holds c = (search rules, refl)
@@ -39,24 +39,24 @@ loop-holds c = (search rules, refl)
 returns : tie.Need-returns invariant-loop decreases-loop
 returns c =
     let l = c.before.before.before.before in
-    count-stops (test (h l) (b l)) (term-count (b l)) l.loop.i (omega (arith, l.before.term-count.ensures))
-    (sym (read c.before) ∙ not-true c.before.entry-declared.result c.if1.true) ∙ l.loop.invariant.1
+    count_stops (test (h l) (b l)) (term_count (b l)) l.loop.i (omega (arith, l.before.term_count.ensures))
+    (sym (read c.before) ∙ not-true c.before.entry_declared.result c.if1.true) ∙ l.loop.invariant.1
 
 loop-again : tie.Need-loop-preserved invariant-loop decreases-loop
 loop-again c =
     let l = c.before.before.before.before in (
       search rules,
-      count_turn (test (h l) (b l)) (term-count (b l)) l.loop.i (omega (arith, l.before.term-count.ensures))
-          (sym (read c.before) ∙ not-false c.before.entry-declared.result c.if1.false) ∙ l.loop.invariant.1,
+      count_turn (test (h l) (b l)) (term_count (b l)) l.loop.i (omega (arith, l.before.term_count.ensures))
+          (sym (read c.before) ∙ not-false c.before.entry_declared.result c.if1.false) ∙ l.loop.invariant.1,
     )
 
 returns-2 : tie.Need-returns-2 invariant-loop decreases-loop
 returns-2 c =
     let l = c.before in
-    count-done (test (h l) (b l)) (term-count (b l)) l.loop.i (omega (arith, l.before.term-count.ensures)) ∙ l.loop.invariant.1
+    count-done (test (h l) (b l)) (term_count (b l)) l.loop.i (omega (arith, l.before.term_count.ensures)) ∙ l.loop.invariant.1
 
-pub entries-named-spec : {M : Type 1} → statement M
-entries-named-spec =
+pub entries_named_spec : {M : Type 1} → statement M
+entries_named_spec =
     tie.close (tie.spec
     invariant-loop
     decreases-loop

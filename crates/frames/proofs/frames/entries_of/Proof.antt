@@ -9,43 +9,43 @@ use mir.Syntax.{w32}
 use Rattle.integers.specs.Lists.{from}
 use Rattle.integers.proofs.Bounds.{back}
 use Rattle.entries.proofs.Sums.{with-set}
-use Rattle.frames.specs.Reading.{term-count, term-entry, term-coefficient, entries-of}
-use Rattle.frames.proofs.Counting.{term-more}
+use Rattle.frames.specs.Reading.{term_count, term_entry, term_coefficient, entries_of}
+use Rattle.frames.proofs.Counting.{term_more}
 use Rattle.frames.proofs.frames.entries_of.Statement.{statement}
 use Rattle.frames.proofs.frames.entries_of.Tie as tie
 
 abbrev invariant-loop : tie.invariant-loop
-invariant-loop b to₀ i₀ to i = (i ≤ term-count b) × (length to ≡ 16) × (to ≡ entries-of b (from i (term-count b - i)))
+invariant-loop b to₀ i₀ to i = (i ≤ term_count b) × (length to ≡ 16) × (to ≡ entries_of b (from i (term_count b - i)))
 
 abbrev decreases-loop : tie.decreases-loop
 decreases-loop b to₀ i₀ to i = i
 
 -- a term's entry is one of the sixteen
-entry-within : (c : tie.After-term-entry invariant-loop decreases-loop) → c.term-entry.result < 16
+entry-within : (c : tie.After-term-entry invariant-loop decreases-loop) → c.term_entry.result < 16
 entry-within c =
     let l = c.before.before in
     omega (arith, l.before.before.before.requires.1 (l.loop.i - 1) (omega arith))
 
 loop-holds : tie.Need-loop-init invariant-loop decreases-loop
-unfolding entries-of
+unfolding entries_of
 loop-holds c =
-    let n = term-count c.before.before.args.b.now in
-    (search rules, refl, rw (c.term-count.ensures, sub_self n))
+    let n = term_count c.before.before.args.b.now in
+    (search rules, refl, rw (c.term_count.ensures, sub_self n))
 
 loop-again : tie.Need-loop-preserved invariant-loop decreases-loop
 loop-again c =
     let l = c.before.before.before in
-    let t = c.term-coefficient in
+    let t = c.term_coefficient in
     let s = l.before.before.before in
     let b = s.args.b.now in
-    let n = term-count b in
+    let n = term_count b in
     let h : l.loop.i - 1 < n = omega arith in
     let e : l.loop.i - 1 + 1 ≡ l.loop.i = omega arith in
     let in_row = s.requires.1 (l.loop.i - 1) h in (
       omega arith,
       simp length-set l.loop.invariant.1,
-      rw (back w32 t.result t.type-inv, t.ensures, c.before.term-entry.ensures.0, term-more b n (l.loop.i - 1) h, e, ← l.loop.invariant.2)
-          (sym (with-set (term-entry b (l.loop.i - 1)) (term-coefficient b (l.loop.i - 1)) l.loop.to (rw l.loop.invariant.1 in_row))),
+      rw (back w32 t.result t.type-inv, t.ensures, c.before.term_entry.ensures.0, term_more b n (l.loop.i - 1) h, e, ← l.loop.invariant.2)
+          (sym (with-set (term_entry b (l.loop.i - 1)) (term_coefficient b (l.loop.i - 1)) l.loop.to (rw l.loop.invariant.1 in_row))),
     )
 
 returns : tie.Need-returns invariant-loop decreases-loop
@@ -54,8 +54,8 @@ returns c =
     let e : l.loop.i ≡ 0 = omega arith in
     rw (e, sub-zero) at l.loop.invariant.2
 
-pub entries-of-spec : {M : Type 1} → statement M
-entries-of-spec =
+pub entries_of_spec : {M : Type 1} → statement M
+entries_of_spec =
     tie.close (tie.spec
     invariant-loop
     decreases-loop

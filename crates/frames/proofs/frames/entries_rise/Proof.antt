@@ -10,16 +10,16 @@ use mathlib.Core.List.{List}
 use lib.Dec.{ltb}
 use lib.ListN.{drop}
 use Rattle.integers.specs.Lists.{every, from}
-use Rattle.frames.specs.Reading.{term-count, term-entry, entries-rise}
-use Rattle.frames.proofs.Counting.{count-stops, count_turn, count-done}
+use Rattle.frames.specs.Reading.{term_count, term_entry, entries_rise}
+use Rattle.frames.proofs.Counting.{count_stops, count_turn, count-done}
 use Rattle.frames.proofs.frames.entries_rise.Statement.{statement}
 use Rattle.frames.proofs.frames.entries_rise.Tie as tie
 
 abbrev test : List ℕ → ℕ → Bool
-test b i = ltb (term-entry b i) (term-entry b (suc i))
+test b i = ltb (term_entry b i) (term_entry b (suc i))
 
 abbrev invariant-loop : tie.invariant-loop
-invariant-loop b n i₀ i-end i = (i ≤ i-end) × (every (test b) (drop i (from 0 (term-count b - 1))) ≡ every (test b) (from 0 (term-count b - 1)))
+invariant-loop b n i₀ i-end i = (i ≤ i-end) × (every (test b) (drop i (from 0 (term_count b - 1))) ≡ every (test b) (from 0 (term_count b - 1)))
 
 abbrev decreases-loop : tie.decreases-loop
 decreases-loop b n i₀ i-end i = i-end - i
@@ -31,32 +31,32 @@ loop-holds : tie.Need-loop-init invariant-loop decreases-loop
 loop-holds c = (search rules, refl)
 
 returns : tie.Need-returns invariant-loop decreases-loop
-unfolding entries-rise
+unfolding entries_rise
 returns c =
     let t = c.before in
     let l = t.before.before.before in
-    let e = rw add-one at t.before.term-entry.ensures.0 in
-    count-stops (test (b l)) (term-count (b l) - 1) l.loop.i (omega (arith, l.before.term-count.ensures))
+    let e = rw add-one at t.before.term_entry.ensures.0 in
+    count_stops (test (b l)) (term_count (b l) - 1) l.loop.i (omega (arith, l.before.term_count.ensures))
     (le-ltb _ _ (rw (e, t.term-entry2.ensures.0) at c.if1.true)) ∙ l.loop.invariant.1
 
 loop-again : tie.Need-loop-preserved invariant-loop decreases-loop
 loop-again c =
     let t = c.before in
     let l = t.before.before.before in
-    let e = rw add-one at t.before.term-entry.ensures.0 in (
+    let e = rw add-one at t.before.term_entry.ensures.0 in (
       search rules,
-      count_turn (test (b l)) (term-count (b l) - 1) l.loop.i (omega (arith, l.before.term-count.ensures))
+      count_turn (test (b l)) (term_count (b l) - 1) l.loop.i (omega (arith, l.before.term_count.ensures))
           (lt-ltb _ _ (rw (e, t.term-entry2.ensures.0) at c.if1.false)) ∙ l.loop.invariant.1,
     )
 
 returns-2 : tie.Need-returns-2 invariant-loop decreases-loop
-unfolding entries-rise
+unfolding entries_rise
 returns-2 c =
     let l = c.before in
-    count-done (test (b l)) (term-count (b l) - 1) l.loop.i (omega (arith, l.before.term-count.ensures)) ∙ l.loop.invariant.1
+    count-done (test (b l)) (term_count (b l) - 1) l.loop.i (omega (arith, l.before.term_count.ensures)) ∙ l.loop.invariant.1
 
-pub entries-rise-spec : {M : Type 1} → statement M
-entries-rise-spec =
+pub entries_rise_spec : {M : Type 1} → statement M
+entries_rise_spec =
     tie.close (tie.spec
     invariant-loop
     decreases-loop

@@ -29,8 +29,8 @@ returns-2 c =
     let g : ℕ → ℤ = λ j. signed (word b (j * 4)) in
     sym (get_or-eq_default (map g (from 1 s.args.h.parameters)) (pos 0) {n = s.args.i} (omega (arith, length-counted g 1 s.args.h.parameters)))
 
-pub numerator-spec : {M : Type 1} → statement M
-numerator-spec = tie.close (tie.spec
+pub numerator_spec : {M : Type 1} → statement M
+numerator_spec = tie.close (tie.spec
     (λ c. search rules)
     (λ c. search rules)
     (λ c. search rules)

@@ -10,12 +10,12 @@ use Rattle.integers.proofs.Bounds.{back}
 use Rattle.integers.proofs.Loops.{front, front-none, front-more}
 use Rattle.rows.specs.Rows.{at}
 use Rattle.models.proofs.Setting.{front-padded}
-use Rattle.frames.specs.Reading.{reference-of}
+use Rattle.frames.specs.Reading.{reference_of}
 use Rattle.frames.proofs.frames.numerators.Statement.{statement}
 use Rattle.frames.proofs.frames.numerators.Tie as tie
 
 abbrev invariant-loop : tie.invariant-loop
-invariant-loop b h to₀ i₀ to i = (i ≤ 8) × (to ≡ front (λ k. at (drop 1 (reference-of h b)) k) i (replicate 8 (pos 0)))
+invariant-loop b h to₀ i₀ to i = (i ≤ 8) × (to ≡ front (λ k. at (drop 1 (reference_of h b)) k) i (replicate 8 (pos 0)))
 
 abbrev decreases-loop : tie.decreases-loop
 decreases-loop b h to₀ i₀ to i = 8 - i
@@ -30,10 +30,10 @@ returns : tie.Need-returns invariant-loop decreases-loop
 returns c =
     let l = c.before in
     let e : l.loop.i ≡ 8 = omega arith in
-    rw (l.loop.invariant.1, e, front-padded 8 (drop 1 (reference-of l.before.before.args.h l.before.before.args.b.now)) (replicate 8 (pos 0)) refl)
+    rw (l.loop.invariant.1, e, front-padded 8 (drop 1 (reference_of l.before.before.args.h l.before.before.args.b.now)) (replicate 8 (pos 0)) refl)
 
-pub numerators-spec : {M : Type 1} → statement M
-numerators-spec =
+pub numerators_spec : {M : Type 1} → statement M
+numerators_spec =
     tie.close (tie.spec
     invariant-loop
     decreases-loop

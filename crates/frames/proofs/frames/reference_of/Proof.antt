@@ -8,7 +8,7 @@ use Rattle.frames.proofs.frames.reference_of.Tie as tie
 returns : tie.Need-returns
 returns c = let w = c.word in rw (back w32 w.result w.type-inv, w.ensures, c.before.numerators.ensures)
 
-pub reference-of-spec : {M : Type 1} → statement M
-reference-of-spec = tie.close (tie.spec
+pub reference_of_spec : {M : Type 1} → statement M
+reference_of_spec = tie.close (tie.spec
     (λ c κs. search rules)
     (λ c κs. search rules) returns)

@@ -4,10 +4,10 @@ use Rattle.frames.proofs.frames.row_of.Statement.{statement}
 use Rattle.frames.proofs.frames.row_of.Tie as tie
 
 returns : tie.Need-returns
-returns c = rw c.before.before.before.entries-of.ensures
+returns c = rw c.before.before.before.entries_of.ensures
 
-pub row-of-spec : {M : Type 1} → statement M
-row-of-spec =
+pub row_of_spec : {M : Type 1} → statement M
+row_of_spec =
     tie.close (tie.spec
     (λ c κs. search rules)
     (λ c. search rules)

@@ -8,7 +8,7 @@ use Rattle.frames.proofs.frames.term_count.Tie as tie
 returns-2 : tie.Need-returns-2
 returns-2 c = sym (get_or-eq_default c.before.args.b.now 0 {n = 3} c.if1.false)
 
-pub term-count-spec : {M : Type 1} → statement M
-term-count-spec = tie.close (tie.spec
+pub term_count_spec : {M : Type 1} → statement M
+term_count_spec = tie.close (tie.spec
     (λ c. search rules)
     (λ c. search rules) returns-2)

@@ -12,8 +12,8 @@ cast-result c = omega (arith, c.shared-slice-known.given (4 + c.before.args.i * 
 returns : tie.Need-returns
 returns c = (refl, omega (arith, c.shared-slice-known.given (4 + c.before.args.i * 5)))
 
-pub term-entry-spec : {M : Type 1} → statement M
-term-entry-spec =
+pub term_entry_spec : {M : Type 1} → statement M
+term_entry_spec =
     tie.close (tie.spec
     (λ c. search rules)
     (λ c. search rules)

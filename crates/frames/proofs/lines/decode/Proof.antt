@@ -11,7 +11,7 @@ use lib.ListN.{length, get_or, drop, length-drop, length-set}
 use lib.Seq.{get_or-drop}
 use Rattle.frames.specs.Hex.{pair}
 use Rattle.frames.proofs.Pairs.{pair-below, is-foreign, is-value}
-use Rattle.frames.proofs.Decoding.{Going, going-none, going_more, going-ends, pair-stops, ends-short, two-left}
+use Rattle.frames.proofs.Decoding.{Going, going_none, going_more, going_ends, pair_stops, ends-short, two_left}
 use Rattle.frames.proofs.lines.decode.Statement.{statement}
 use Rattle.frames.proofs.lines.decode.Tie as tie
 
@@ -25,18 +25,18 @@ abbrev input : tie.At-loop invariant-loop decreases-loop → List ℕ
 input l = l.before.before.before.args.input.now
 
 loop-holds : tie.Need-loop-init invariant-loop decreases-loop
-loop-holds c = (search rules, search rules, search rules, going-none _ _)
+loop-holds c = (search rules, search rules, search rules, going_none _ _)
 
 returns : tie.Need-returns invariant-loop decreases-loop
 returns c =
     let t = c.before in
     let l = t.before.before.before.before.before in
     let e : l.loop.at + 1 < length (input l) = omega arith in
-    let two = two-left (input l) l.loop.at e in
+    let two = two_left (input l) l.loop.at e in
     let foreign = is-foreign 256 (pair-below (get_or (input l) l.loop.at 0) (get_or (input l) (l.loop.at + 1) 0)) (omega (arith, t.before.pair.ensures)) in (
       l.loop.invariant.2,
-      going-ends (drop l.before.before.before.args.from (input l)) l.loop.to l.loop.n (drop l.loop.at (input l)) c.ended.result (eqb (get_or (input l) l.loop.at 0) 10) l.loop.invariant.3
-          (rw two (pair-stops (get_or (input l) l.loop.at 0) (get_or (input l) (l.loop.at + 1) 0) (drop (l.loop.at + 2) (input l)) foreign)) c.ended.ensures.0 c.ended.ensures.1,
+      going_ends (drop l.before.before.before.args.from (input l)) l.loop.to l.loop.n (drop l.loop.at (input l)) c.ended.result (eqb (get_or (input l) l.loop.at 0) 10) l.loop.invariant.3
+          (rw two (pair_stops (get_or (input l) l.loop.at 0) (get_or (input l) (l.loop.at + 1) 0) (drop (l.loop.at + 2) (input l)) foreign)) c.ended.ensures.0 c.ended.ensures.1,
     )
 
 loop-again : tie.Need-loop-preserved invariant-loop decreases-loop
@@ -45,7 +45,7 @@ loop-again c =
     let t = k.before.before in
     let l = t.before.before.before.before.before in
     let e : l.loop.at + 1 < length (input l) = omega arith in
-    let two = two-left (input l) l.loop.at e in
+    let two = two_left (input l) l.loop.at e in
     let a = get_or (input l) l.loop.at 0 in
     let b = get_or (input l) (l.loop.at + 1) 0 in
     let g : Going (drop l.before.before.before.args.from (input l)) (a ∷ b ∷ drop (l.loop.at + 2) (input l)) l.loop.to l.loop.n = rw two at l.loop.invariant.3 in
@@ -63,12 +63,12 @@ returns-2 c =
     let rest = drop l.loop.at (input l) in
     let e : get_or rest 0 0 ≡ get_or (input l) l.loop.at 0 = get_or-drop l.loop.at (input l) 0 0 ∙ ap (λ (k : ℕ). get_or (input l) k 0) (add-zero l.loop.at) in (
       l.loop.invariant.2,
-      going-ends (drop l.before.before.before.args.from (input l)) l.loop.to l.loop.n rest c.ended2.result (eqb (get_or (input l) l.loop.at 0) 10) l.loop.invariant.3
+      going_ends (drop l.before.before.before.args.from (input l)) l.loop.to l.loop.n rest c.ended2.result (eqb (get_or (input l) l.loop.at 0) 10) l.loop.invariant.3
           (rw (← e) (ends-short rest (rw length-drop (omega arith)))) c.ended2.ensures.0 c.ended2.ensures.1,
     )
 
-pub decode-spec : {M : Type 1} → statement M
-decode-spec =
+pub decode_spec : {M : Type 1} → statement M
+decode_spec =
     tie.close (tie.spec
     invariant-loop
     decreases-loop

@@ -8,7 +8,7 @@ use Rattle.frames.proofs.lines.ended.Tie as tie
 returns-2 : tie.Need-returns-2
 returns-2 c = rw (get_or-eq_default c.before.args.input.now 0 {n = c.before.args.at} c.if1.false) (refl, refl)
 
-pub ended-spec : {M : Type 1} → statement M
-ended-spec = tie.close (tie.spec
+pub ended_spec : {M : Type 1} → statement M
+ended_spec = tie.close (tie.spec
     (λ c. search rules)
     (λ c. search rules) returns-2)

@@ -3,11 +3,11 @@ use Prim.Native.Nat.{ℕ}
 use native.Mathlib.Omega.{arith}
 use borrow.Author.Rules.{rules}
 use mathlib.Core.List.{List, [], ◌∷◌, ◌++◌}
-use Rattle.sets.specs.Outcomes.{outcome-number}
+use Rattle.sets.specs.Outcomes.{outcome_number}
 use Rattle.frames.specs.Hex.{digits_of, big_endian}
-use Rattle.frames.specs.Writing.{Wrote, count-bytes}
+use Rattle.frames.specs.Writing.{Wrote, count_bytes}
 use Rattle.frames.proofs.Overwriting.{wrote_then}
-use Rattle.frames.proofs.Lining.{answer-digits}
+use Rattle.frames.proofs.Lining.{answer_digits}
 use Rattle.frames.proofs.regions.put_answer.Statement.{statement}
 use Rattle.frames.proofs.regions.put_answer.Tie as tie
 
@@ -26,7 +26,7 @@ abbrev first : tie.After-put-byte2 → tie.After-put-byte
 first c = c.before.before.before.before.before
 
 abbrev number : tie.After-put-byte → List ℕ
-number c = kind c ++ digits_of (outcome-number (start c).args.outcome ∷ [])
+number c = kind c ++ digits_of (outcome_number (start c).args.outcome ∷ [])
 
 second : (c : tie.After-put-byte2) → Wrote (number (first c)) 0 (to (first c)) c.put-byte2.new.0 c.put-byte2.result
 unfolding digits_of
@@ -38,7 +38,7 @@ abbrev second-of : tie.After-put-counts → tie.After-put-byte2
 second-of c = c.before.before.before.before
 
 abbrev counts : tie.After-put-byte → List ℕ
-counts c = number c ++ digits_of (count-bytes (start c).args.states (start c).args.attempts (start c).args.formed)
+counts c = number c ++ digits_of (count_bytes (start c).args.states (start c).args.attempts (start c).args.formed)
 
 third : (c : tie.After-put-counts) → Wrote (counts (first (second-of c))) 0 (to (first (second-of c))) c.put-counts.new.0 c.put-counts.result
 unfolding digits_of
@@ -79,11 +79,11 @@ returns c =
     let b = e.before.before.before.before in
     let f = first (second-of (third_of b)) in
     let a = (start f).args in
-    rw (answer-digits a.outcome a.states a.attempts a.formed a.rows)
+    rw (answer_digits a.outcome a.states a.attempts a.formed a.rows)
     (wrote_then (counts f ++ digits_of (a.rows ∷ [])) (10 ∷ []) 0 _ _ (to f) _ _ (omega (arith, (start f).pre)) (fourth b) e.put-end.ensures)
 
-pub put-answer-spec : {M : Type 1} → statement M
-put-answer-spec =
+pub put_answer_spec : {M : Type 1} → statement M
+put_answer_spec =
     tie.close (tie.spec
     (λ c κs. search rules)
     (λ c κs. search rules)

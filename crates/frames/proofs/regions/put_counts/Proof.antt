@@ -4,7 +4,7 @@ use borrow.Author.Rules.{rules}
 use mathlib.Core.List.{◌++◌}
 use Rattle.frames.specs.Hex.{digits_of, big_endian}
 use Rattle.frames.proofs.Overwriting.{wrote_then}
-use Rattle.frames.proofs.Lining.{count-digits}
+use Rattle.frames.proofs.Lining.{count_digits}
 use Rattle.frames.proofs.regions.put_counts.Statement.{statement}
 use Rattle.frames.proofs.regions.put_counts.Tie as tie
 
@@ -36,11 +36,11 @@ returns c =
     let a = digits_of (big_endian 2 s.args.states) in
     let b = digits_of (big_endian 2 s.args.attempts) in
     let two = wrote_then a b at _ _ to _ _ (omega (arith, s.requires)) t.put_two.ensures u.put-two2.ensures in
-    rw (count-digits s.args.states s.args.attempts s.args.formed)
+    rw (count_digits s.args.states s.args.attempts s.args.formed)
     (wrote_then (a ++ b) (digits_of (big_endian 4 s.args.formed)) at _ _ to _ _ (omega (arith, s.requires)) two f.put_four.ensures)
 
-pub put-counts-spec : {M : Type 1} → statement M
-put-counts-spec =
+pub put_counts_spec : {M : Type 1} → statement M
+put_counts_spec =
     tie.close (tie.spec
     (λ c κs. search rules) put-two-requires-2 put-four-requires
     (λ c. search rules) returns)

@@ -6,17 +6,17 @@ use borrow.Author.Rules.{rules}
 use lib.IntN.{ℤ}
 use mathlib.Core.List.{List, ◌++◌}
 use lib.ListN.{length, length-append}
-use Rattle.rows.specs.Rows.{row-numbers, row_at}
+use Rattle.rows.specs.Rows.{row_numbers, row_at}
 use Rattle.sets.specs.Stores.{rows_at}
 use Rattle.frames.specs.Hex.{line_of}
-use Rattle.frames.specs.Writing.{row-bytes, row-lines}
-use Rattle.frames.proofs.Lining.{from_row, lines-turn, lines-done, lines-all}
-use Rattle.frames.proofs.Overwriting.{Going, going-first, going_on, going_end}
+use Rattle.frames.specs.Writing.{row_bytes, row_lines}
+use Rattle.frames.proofs.Lining.{from_row, lines_turn, lines-done, lines-all}
+use Rattle.frames.proofs.Overwriting.{Going, going_first, going_on, going_end}
 use Rattle.frames.proofs.regions.put_region.Statement.{statement}
 use Rattle.frames.proofs.regions.put_region.Tie as tie
 
 abbrev invariant-loop : tie.invariant-loop
-invariant-loop to₀ at region n next₀ i₀ to next i = (i ≤ n) × (length to ≡ length to₀) × Going (row-lines (rows_at region 0 n)) at to₀ (row-lines (from_row region n i)) next to
+invariant-loop to₀ at region n next₀ i₀ to next i = (i ≤ n) × (length to ≡ length to₀) × Going (row_lines (rows_at region 0 n)) at to₀ (row_lines (from_row region n i)) next to
 
 abbrev decreases-loop : tie.decreases-loop
 decreases-loop to₀ at region n next₀ i₀ to next i = n - i
@@ -30,13 +30,13 @@ module _ (l : tie.At-loop invariant-loop decreases-loop) where
   n = l.before.before.args.n
 
   abbrev line : List ℕ
-  line = line_of (row-bytes (row_at s (l.loop.i * row-numbers)))
+  line = line_of (row_bytes (row_at s (l.loop.i * row_numbers)))
 
   abbrev more : List ℕ
-  more = row-lines (from_row s n (l.loop.i + 1))
+  more = row_lines (from_row s n (l.loop.i + 1))
 
-  now-line : l.loop.i < n → Going (row-lines (rows_at s 0 n)) l.before.before.args.at l.before.before.args.to.now (line ++ more) l.loop.next l.loop.to
-  now-line h = rw (lines-turn s n l.loop.i h) at l.loop.inv.2
+  now-line : l.loop.i < n → Going (row_lines (rows_at s 0 n)) l.before.before.args.at l.before.before.args.to.now (line ++ more) l.loop.next l.loop.to
+  now-line h = rw (lines_turn s n l.loop.i h) at l.loop.inv.2
 
 put-row-requires : tie.Need-put-row-requires invariant-loop decreases-loop
 put-row-requires c κs =
@@ -47,7 +47,7 @@ put-row-requires c κs =
 loop-holds : tie.Need-loop-init invariant-loop decreases-loop
 loop-holds c =
     let a = c.before.args in
-    (search rules, refl, rw (lines-all a.region.now a.n) (going-first _ a.at a.to.now))
+    (search rules, refl, rw (lines-all a.region.now a.n) (going_first _ a.at a.to.now))
 
 loop-again : tie.Need-loop-preserved invariant-loop decreases-loop
 loop-again c =
@@ -64,8 +64,8 @@ returns c =
     let a = l.before.before.args in
     going_end _ a.at a.to.now l.loop.next l.loop.to (rw (lines-done a.region.now a.n l.loop.i c.loop-test.false) at l.loop.invariant.2)
 
-pub put-region-spec : {M : Type 1} → statement M
-put-region-spec =
+pub put_region_spec : {M : Type 1} → statement M
+put_region_spec =
     tie.close (tie.spec
     invariant-loop
     decreases-loop

@@ -4,11 +4,11 @@ use Prim.Native.Nat.{ℕ, ◌+◌, ◌-◌, ◌*◌, ◌≤◌, ◌<◌}
 use native.Mathlib.Omega.{arith}
 use borrow.Author.Rules.{rules}
 use lib.ListN.{length, length-append}
-use Rattle.rows.specs.Rows.{row-numbers, row_at}
+use Rattle.rows.specs.Rows.{row_numbers, row_at}
 use Rattle.sets.specs.Stores.{rows_at}
 use Rattle.frames.specs.Hex.{line_of}
-use Rattle.frames.specs.Writing.{row-bytes, row-lines}
-use Rattle.frames.proofs.Lining.{from_row, lines-turn, lines-done, lines-all}
+use Rattle.frames.specs.Writing.{row_bytes, row_lines}
+use Rattle.frames.proofs.Lining.{from_row, lines_turn, lines-done, lines-all}
 use Rattle.frames.proofs.regions.region_length.Statement.{statement}
 use Rattle.frames.proofs.regions.region_length.Tie as tie
 
@@ -16,7 +16,7 @@ zero-plus : (n : ℕ) → 0 + n ≡ n
 zero-plus n = omega arith
 
 abbrev invariant-loop : tie.invariant-loop
-invariant-loop region n total₀ i₀ total i = (i ≤ n) × (total ≤ i * 171) × (total + length (row-lines (from_row region n i)) ≡ length (row-lines (rows_at region 0 n)))
+invariant-loop region n total₀ i₀ total i = (i ≤ n) × (total ≤ i * 171) × (total + length (row_lines (from_row region n i)) ≡ length (row_lines (rows_at region 0 n)))
 
 abbrev decreases-loop : tie.decreases-loop
 decreases-loop region n total₀ i₀ total i = n - i
@@ -31,10 +31,10 @@ loop-again c =
     let n = l.before.args.n in
     let h : l.loop.i < n = omega arith in
     let k = rw c.before.read.ensures at c.row-length.ensures.0 in
-    let e = lines-turn s n l.loop.i h in (
+    let e = lines_turn s n l.loop.i h in (
       search rules,
       omega (arith, c.row-length.ensures.1),
-      omega (arith, l.loop.invariant.2, k, ap length e, length-append (line_of (row-bytes (row_at s (l.loop.i * row-numbers)))) (row-lines (from_row s n (l.loop.i + 1)))),
+      omega (arith, l.loop.invariant.2, k, ap length e, length-append (line_of (row_bytes (row_at s (l.loop.i * row_numbers)))) (row_lines (from_row s n (l.loop.i + 1)))),
     )
 
 returns : tie.Need-returns invariant-loop decreases-loop
@@ -43,8 +43,8 @@ returns c =
     let s = l.before.args.region.now in
     (omega (arith, l.loop.invariant.2, ap length (lines-done s l.before.args.n l.loop.i c.loop-test.false)), omega arith)
 
-pub region-length-spec : {M : Type 1} → statement M
-region-length-spec =
+pub region_length_spec : {M : Type 1} → statement M
+region_length_spec =
     tie.close (tie.spec
     invariant-loop
     decreases-loop

@@ -19,7 +19,7 @@ returns-4 c = rw c.before.if4.true
 returns-5 : tie.Need-returns-5
 returns-5 c = let e = c.before in rw (ne_eqb _ 1 e.before.before.if1.false, ne_eqb _ 2 e.before.if2.false, ne_eqb _ 3 e.if3.false, ne_eqb _ 4 c.if4.false)
 
-pub after-spec : {M : Type 1} → statement M
-after-spec = tie.close (tie.spec returns returns-2
+pub after_spec : {M : Type 1} → statement M
+after_spec = tie.close (tie.spec returns returns-2
     (λ c. search rules) returns-3
     (λ c. search rules) returns-4 returns-5)

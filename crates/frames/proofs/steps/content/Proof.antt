@@ -1,36 +1,36 @@
 -- `frames::steps::content` meets its contract. Assumes nothing.
 use mathlib.Core.Path.{◌≡◌}
 use native.Mathlib.Omega.{arith}
-use Rattle.frames.specs.Reading.{due-length, content}
+use Rattle.frames.specs.Reading.{due_length, content}
 use Rattle.frames.proofs.steps.content.Statement.{statement}
 use Rattle.frames.proofs.steps.content.Tie as tie
 
 header-frame-requires : tie.Need-header-frame-requires
-unfolding due-length
+unfolding due_length
 header-frame-requires c κs = rw c.if1.true at c.before.before.requires.3
 
 returns : tie.Need-returns
 unfolding content
-returns c s e = rw c.before.if1.true (c.header-frame.ensures s)
+returns c s e = rw c.before.if1.true (c.header_frame.ensures s)
 
 reference-frame-requires : tie.Need-reference-frame-requires
-unfolding due-length
+unfolding due_length
 reference-frame-requires c κs = let s = c.before.before.before in (s.requires.0.parameters, rw c.if2.true at s.requires.3)
 
 returns-2 : tie.Need-returns-2
 unfolding content
-returns-2 c s e = rw c.before.if2.true (c.reference-frame.ensures s e)
+returns-2 c s e = rw c.before.if2.true (c.reference_frame.ensures s e)
 
 transition-frame-requires : tie.Need-transition-frame-requires
-unfolding due-length
+unfolding due_length
 transition-frame-requires c κs = let s = c.before.before.before.before in rw c.if3.true at s.requires.3
 
 returns-3 : tie.Need-returns-3
 unfolding content
-returns-3 c s e = rw c.before.if3.true (c.transition-frame.ensures s e)
+returns-3 c s e = rw c.before.if3.true (c.transition_frame.ensures s e)
 
 row-frame-requires : tie.Need-row-frame-requires
-unfolding due-length
+unfolding due_length
 row-frame-requires c κs =
     let s = c.before.before.before.before in
     let k : s.args.kind ≡ 3 = omega arith in
@@ -42,10 +42,10 @@ returns-4 c s e =
     let d = c.before in
     let x = d.before.before.before.before.args.kind in
     let k : x ≡ 3 = omega arith in
-    rw k (c.row-frame.ensures s e)
+    rw k (c.row_frame.ensures s e)
 
-pub content-spec : {M : Type 1} → statement M
-content-spec =
+pub content_spec : {M : Type 1} → statement M
+content_spec =
     tie.close (tie.spec
     header-frame-requires
     returns

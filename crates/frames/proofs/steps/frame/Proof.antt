@@ -8,21 +8,21 @@ use Rattle.sets.specs.Outcomes.{refused}
 use mathlib.Core.List.{List}
 use Rattle.frames.specs.declared.Progress.{Progress}
 use lib.ListN.{length, take, drop, get_or}
-use Rattle.frames.specs.Reading.{term-count, placed, passed, content, frame, Seen, progress-of}
-use Rattle.frames.specs.Steps.{frame-limit, Told}
+use Rattle.frames.specs.Reading.{term_count, placed, passed, content, frame, Seen, progress_of}
+use Rattle.frames.specs.Steps.{frame_limit, Told}
 use Rattle.frames.proofs.Placing.{InPlace, in_place, due-small, held, held-some, held-few, shown-length, frame-none, frame-shown, whole-shown}
 use Rattle.frames.proofs.steps.frame.Statement.{statement}
 use Rattle.frames.proofs.steps.frame.Tie as tie
 
 -- the buffer has a byte at least, and no more than its length
-n-is : (c : tie.After-held) → (1 ≤ c.held.result) × (c.held.result ≤ frame-limit)
+n-is : (c : tie.After-held) → (1 ≤ c.held.result) × (c.held.result ≤ frame_limit)
 n-is c =
     let count = c.before.before.before.args.count in
     rw c.held.ensures (held-some count (omega arith), held-few count)
 
 -- a byte's worth of terms
-omega-small : (c : tie.After-placed) → term-count (take (c.before.before.before.before.held.result - 1) (drop 1 c.before.before.before.before.before.before.before.args.buffer.now)) < 256
-omega-small c = omega (arith, c.before.term-count.ensures)
+omega-small : (c : tie.After-placed) → term_count (take (c.before.before.before.before.held.result - 1) (drop 1 c.before.before.before.before.before.before.before.args.buffer.now)) < 256
+omega-small c = omega (arith, c.before.term_count.ensures)
 
 -- what the places further on start from
 module _ (c : tie.After-placed) where
@@ -41,26 +41,26 @@ module _ (c : tie.After-placed) where
   some : 0 < start.args.count
   some = omega (arith, c.before.before.before.before.before.if1.false)
 
-  read : c.placed.result ≡ placed p (get_or to 0 0) (start.args.count - 1) (term-count shown)
-  read = rw (c.before.term-count.ensures, c.before.before.before.before.held.ensures) at c.placed.ensures
+  read : c.placed.result ≡ placed p (get_or to 0 0) (start.args.count - 1) (term_count shown)
+  read = rw (c.before.term_count.ensures, c.before.before.before.before.held.ensures) at c.placed.ensures
 
-  frame-told : (s : Seen) (bs : List ℕ) → progress-of s ≡ p → length bs ≡ start.args.count → take start.args.count to ≡ take frame-limit bs →
+  frame-told : (s : Seen) (bs : List ℕ) → progress_of s ≡ p → length bs ≡ start.args.count → take start.args.count to ≡ take frame_limit bs →
       frame s bs ≡ passed c.placed.result (content s (get_or to 0 0) (drop 1 bs))
   frame-told s bs e size same =
       frame-shown to bs start.args.count size start.pre.1 same some s ∙
-      ap (λ (o : Outcome). passed o (content s (get_or to 0 0) (drop 1 bs))) (ap (λ (q : Progress). placed q (get_or to 0 0) (start.args.count - 1) (term-count shown)) e ∙ sym read)
+      ap (λ (o : Outcome). passed o (content s (get_or to 0 0) (drop 1 bs))) (ap (λ (q : Progress). placed q (get_or to 0 0) (start.args.count - 1) (term_count shown)) e ∙ sym read)
 
-  few-terms : term-count shown < 256
+  few-terms : term_count shown < 256
   few-terms = rw c.before.before.before.before.held.ensures at (omega-small c)
 
 module _ (c : tie.After-enum-told) where
-  place : InPlace (p c.before.before) (get_or (to c.before.before) 0 0) ((start c.before.before).args.count - 1) (term-count (shown c.before.before))
+  place : InPlace (p c.before.before) (get_or (to c.before.before) 0 0) ((start c.before.before).args.count - 1) (term_count (shown c.before.before))
   place = in_place _ _ _ _ (sym (read c.before.before) ∙ c.enum_told.given.1)
 
-  fits : (start c.before.before).args.count ≤ frame-limit
+  fits : (start c.before.before).args.count ≤ frame_limit
   fits =
       let o = c.before.before in
-      omega (arith, place.size, due-small (p o).header (get_or (to o) 0 0) (term-count (shown o)) (start o).requires.0 (few-terms o), some o)
+      omega (arith, place.size, due-small (p o).header (get_or (to o) 0 0) (term_count (shown o)) (start o).requires.0 (few-terms o), some o)
 
 returns : tie.Need-returns
 returns c s bs e size same = rw (frame-none s bs (size ∙ c.before.if1.true)) c.blank.ensures.1
@@ -104,8 +104,8 @@ returns-3 c s bs e size same =
     frame-told o s bs e size same ∙ ap (λ (q : Outcome). passed q (content s (get_or (to o) 0 0) (drop 1 bs))) k.o.given.1 in
     rw is c.blank2.ensures.1
 
-pub frame-spec : {M : Type 1} → statement M
-frame-spec =
+pub frame_spec : {M : Type 1} → statement M
+frame_spec =
     tie.close (tie.spec
     (λ c κs. search rules)
     returns

@@ -2,26 +2,26 @@
 use mathlib.Core.Path.{sym, ◌∙◌}
 use borrow.Author.Rules.{rules}
 use borrow.Author.Tests.{not-true, not-false}
-use Rattle.frames.specs.Reading.{header_of, header-frame}
+use Rattle.frames.specs.Reading.{header_of, header_frame}
 use Rattle.frames.proofs.Taking.{met-header}
 use Rattle.frames.proofs.steps.header_frame.Statement.{statement}
 use Rattle.frames.proofs.steps.header_frame.Tie as tie
 
 returns : tie.Need-returns
-unfolding header-frame
+unfolding header_frame
 returns c s =
     let f = c.before.before in
     rw (sym (rw f.before.header_of.ensures at f.fits2.ensures) ∙ not-true f.fits2.result c.before.if1.true) c.blank.ensures.1
 
 returns-2 : tie.Need-returns-2
-unfolding header-frame
+unfolding header_frame
 returns-2 c s =
     let f = c.before.before in
     rw (sym (rw f.before.header_of.ensures at f.fits2.ensures) ∙ not-false f.fits2.result c.before.if1.false)
     (met-header _ s c.blank2.ensures.1 (header_of f.before.before.before.args.b.now) c.blank2.ensures.0 f.before.header_of.ensures)
 
-pub header-frame-spec : {M : Type 1} → statement M
-header-frame-spec =
+pub header_frame_spec : {M : Type 1} → statement M
+header_frame_spec =
     tie.close (tie.spec
     (λ c κs. search rules)
     (λ c κs. search rules)

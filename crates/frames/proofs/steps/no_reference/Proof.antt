@@ -8,5 +8,5 @@ returns : tie.Need-returns
 unfolding padded
 returns c = refl
 
-pub no-reference-spec : {M : Type 1} → statement M
-no-reference-spec = tie.close (tie.spec returns)
+pub no_reference_spec : {M : Type 1} → statement M
+no_reference_spec = tie.close (tie.spec returns)

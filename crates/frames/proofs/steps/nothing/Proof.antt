@@ -6,7 +6,7 @@ use Rattle.frames.proofs.steps.nothing.Tie as tie
 returns : tie.Need-returns
 returns c = rw (c.before.no_Header.ensures, c.no-reference.ensures)
 
-pub nothing-spec : {M : Type 1} → statement M
-nothing-spec = tie.close (tie.spec
+pub nothing_spec : {M : Type 1} → statement M
+nothing_spec = tie.close (tie.spec
     (λ c κs. search rules)
     (λ c κs. search rules) returns)

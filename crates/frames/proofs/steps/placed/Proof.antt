@@ -29,7 +29,7 @@ returns-4 c =
       le-leb 1 _ e.before.before.if1.false,
       le-leb _ 4 e.before.if2.false,
       sym e.either.ensures ∙ not-false e.either.result d.before.if3.false,
-      ne_eqb _ _ (rw d.due-length.ensures at c.if4.true),
+      ne_eqb _ _ (rw d.due_length.ensures at c.if4.true),
     )
 
 returns-5 : tie.Need-returns-5
@@ -41,8 +41,8 @@ returns-5 c =
       le-leb 1 _ e.before.before.if1.false,
       le-leb _ 4 e.before.if2.false,
       sym e.either.ensures ∙ not-false e.either.result d.before.if3.false,
-      eq-eqb _ _ (rw d.due-length.ensures at c.before.before.if4.false),
-      sym c.before.is-due.ensures ∙ c.if5.true,
+      eq-eqb _ _ (rw d.due_length.ensures at c.before.before.if4.false),
+      sym c.before.is_due.ensures ∙ c.if5.true,
     )
 
 returns-6 : tie.Need-returns-6
@@ -54,12 +54,12 @@ returns-6 c =
       le-leb 1 _ e.before.before.if1.false,
       le-leb _ 4 e.before.if2.false,
       sym e.either.ensures ∙ not-false e.either.result d.before.if3.false,
-      eq-eqb _ _ (rw d.due-length.ensures at c.before.before.if4.false),
-      sym c.before.is-due.ensures ∙ c.if5.false,
+      eq-eqb _ _ (rw d.due_length.ensures at c.before.before.if4.false),
+      sym c.before.is_due.ensures ∙ c.if5.false,
     )
 
-pub placed-spec : {M : Type 1} → statement M
-placed-spec =
+pub placed_spec : {M : Type 1} → statement M
+placed_spec =
     tie.close (tie.spec
     returns
     returns-2

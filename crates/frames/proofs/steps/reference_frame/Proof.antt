@@ -5,39 +5,39 @@ use lib.IntN.{ℤ}
 use borrow.Author.Rules.{rules}
 use borrow.Author.Tests.{not-true, not-false}
 use mathlib.Core.Bool.{true}
-use Rattle.models.specs.Acceptance.{reference-fits}
+use Rattle.models.specs.Acceptance.{reference_fits}
 use Rattle.models.proofs.Setting.{length-counted}
 use Rattle.frames.specs.Hex.{signed, word}
-use Rattle.frames.specs.Reading.{reference-of, reference-frame}
-use Rattle.frames.proofs.Taking.{met-reference, table-list}
+use Rattle.frames.specs.Reading.{reference_of, reference_frame}
+use Rattle.frames.proofs.Taking.{met-reference, table_list}
 use Rattle.frames.proofs.steps.reference_frame.Statement.{statement}
 use Rattle.frames.proofs.steps.reference_frame.Tie as tie
 
 -- the test, of the list that the frame gives
-read : (c : tie.After-fits2) → c.fits2.result ≡ reference-fits (reference-of c.before.before.before.args.h c.before.before.before.args.b.now)
+read : (c : tie.After-fits2) → c.fits2.result ≡ reference_fits (reference_of c.before.before.before.args.h c.before.before.before.args.b.now)
 read c =
     let s = c.before.before.before in
     let h = s.args.h in
     let b = s.args.b.now in
     let g : ℕ → ℤ = λ i. signed (word b (i * 4)) in
-    (rw c.before.reference-of.ensures at c.fits2.ensures) ∙ ap reference-fits (table-list (signed (word b 0)) _ h.parameters (length-counted g 1 h.parameters) s.requires.0)
+    (rw c.before.reference_of.ensures at c.fits2.ensures) ∙ ap reference_fits (table_list (signed (word b 0)) _ h.parameters (length-counted g 1 h.parameters) s.requires.0)
 
 returns : tie.Need-returns
-unfolding reference-frame
+unfolding reference_frame
 returns c s e =
     let f = c.before.before in
     rw (e, sym (read f) ∙ not-true f.fits2.result c.before.if1.true) c.blank.ensures.1
 
 returns-2 : tie.Need-returns-2
-unfolding reference-frame
+unfolding reference_frame
 returns-2 c s e =
     let f = c.before.before in
     let b = f.before.before.before.args.b.now in
-    let t : reference-fits (reference-of s.header b) ≡ true = rw e (sym (read f) ∙ not-false f.fits2.result c.before.if1.false) in
-    rw t (met-reference _ s c.blank2.ensures.1 (reference-of s.header b) c.blank2.ensures.0 (rw e f.before.reference-of.ensures))
+    let t : reference_fits (reference_of s.header b) ≡ true = rw e (sym (read f) ∙ not-false f.fits2.result c.before.if1.false) in
+    rw t (met-reference _ s c.blank2.ensures.1 (reference_of s.header b) c.blank2.ensures.0 (rw e f.before.reference_of.ensures))
 
-pub reference-frame-spec : {M : Type 1} → statement M
-reference-frame-spec =
+pub reference_frame_spec : {M : Type 1} → statement M
+reference_frame_spec =
     tie.close (tie.spec
     (λ c κs. search rules)
     (λ c κs. search rules)

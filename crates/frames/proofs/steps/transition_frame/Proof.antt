@@ -2,29 +2,29 @@
 use mathlib.Core.Path.{◌≡◌, sym, ◌∙◌}
 use borrow.Author.Rules.{rules}
 use mathlib.Core.Bool.{true}
-use Rattle.models.specs.Acceptance.{transition-declared}
+use Rattle.models.specs.Acceptance.{transition_declared}
 use borrow.Author.Tests.{not-true, not-false}
-use Rattle.frames.specs.Reading.{transition-of, transition-frame}
-use Rattle.frames.proofs.Taking.{met-transition}
+use Rattle.frames.specs.Reading.{transition_of, transition_frame}
+use Rattle.frames.proofs.Taking.{met_transition}
 use Rattle.frames.proofs.steps.transition_frame.Statement.{statement}
 use Rattle.frames.proofs.steps.transition_frame.Tie as tie
 
 returns : tie.Need-returns
-unfolding transition-frame
+unfolding transition_frame
 returns c s e =
     let d = c.before.before in
-    rw (e, sym (rw d.before.transition-of.ensures at d.transition-declared.ensures) ∙ not-true d.transition-declared.result c.before.if1.true) c.blank.ensures.1
+    rw (e, sym (rw d.before.transition_of.ensures at d.transition_declared.ensures) ∙ not-true d.transition_declared.result c.before.if1.true) c.blank.ensures.1
 
 returns-2 : tie.Need-returns-2
-unfolding transition-frame
+unfolding transition_frame
 returns-2 c s e =
     let d = c.before.before in
     let b = d.before.before.before.args.b.now in
-    let t : transition-declared s.header (transition-of b) ≡ true = rw e (sym (rw d.before.transition-of.ensures at d.transition-declared.ensures) ∙ not-false d.transition-declared.result c.before.if1.false) in
-    rw t (met-transition _ s c.blank2.ensures.1 (transition-of b) c.blank2.ensures.0 d.before.transition-of.ensures)
+    let t : transition_declared s.header (transition_of b) ≡ true = rw e (sym (rw d.before.transition_of.ensures at d.transition_declared.ensures) ∙ not-false d.transition_declared.result c.before.if1.false) in
+    rw t (met_transition _ s c.blank2.ensures.1 (transition_of b) c.blank2.ensures.0 d.before.transition_of.ensures)
 
-pub transition-frame-spec : {M : Type 1} → statement M
-transition-frame-spec =
+pub transition_frame_spec : {M : Type 1} → statement M
+transition_frame_spec =
     tie.close (tie.spec
     (λ c κs. search rules)
     (λ c κs. search rules)

@@ -1,7 +1,7 @@
 -- `models::Header::entry_declared` meets its contract. Assumes nothing.
 use mathlib.Core.Path.{◌∙◌}
 use borrow.Author.Rules.{rules}
-use Rattle.models.proofs.Declared.{named, not-initial, a-clock}
+use Rattle.models.proofs.Declared.{named, not-initial, a_clock}
 use Rattle.models.proofs.Header.entry_declared.Statement.{statement}
 use Rattle.models.proofs.Header.entry_declared.Tie as tie
 
@@ -14,10 +14,10 @@ returns-2 c = let s = c.before.before in not-initial s.args.self s.args.kind s.a
 returns-3 : tie.Need-returns-3
 returns-3 c =
     let s = c.before.before.before in
-    c.both.ensures ∙ a-clock s.args.self s.args.kind s.args.entry c.before.before.if1.false c.before.if2.false
+    c.both.ensures ∙ a_clock s.args.self s.args.kind s.args.entry c.before.before.if1.false c.before.if2.false
 
-pub entry-declared-spec : {M : Type 1} → statement M
-entry-declared-spec =
+pub entry_declared_spec : {M : Type 1} → statement M
+entry_declared_spec =
     tie.close (tie.spec
     (λ c. search rules) returns returns-2
     (λ c. search rules)

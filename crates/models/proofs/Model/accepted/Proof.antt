@@ -7,25 +7,25 @@ use Rattle.integers.specs.Lists.{every}
 use Rattle.integers.proofs.Lists.{all_map}
 use Rattle.sets.specs.declared.Outcome.TheVariants.{Found}
 use Rattle.models.specs.declared.Model.{Model}
-use Rattle.models.specs.Automaton.{given-rows, given-transitions, given-reference}
-use Rattle.models.specs.Acceptance.{header-fits, reference-fits, transition-declared, accepted}
+use Rattle.models.specs.Automaton.{given_rows, given_transitions, given_reference}
+use Rattle.models.specs.Acceptance.{header_fits, reference_fits, transition_declared, accepted}
 use Rattle.models.proofs.Accepted.{parameters-within, transitions-within, past-rows, terms-small, reference-within}
 use Rattle.models.proofs.Tables.{rows-found, rows-refused}
 use Rattle.models.proofs.Model.accepted.Statement.{statement}
 use Rattle.models.proofs.Model.accepted.Tie as tie
 
 -- the tests that were passed, and the model that they are of
-header : (c : tie.Else1) → header-fits c.before.before.before.before.args.self.header ≡ true
+header : (c : tie.Else1) → header_fits c.before.before.before.before.args.self.header ≡ true
 header c = sym c.before.fits2.ensures ∙ not-false c.before.fits2.result c.if1.false
 
-reference : (c : tie.Else2) → reference-fits (given-reference c.before.before.before.before.before.before.args.self) ≡ true
+reference : (c : tie.Else2) → reference_fits (given_reference c.before.before.before.before.before.before.args.self) ≡ true
 reference c = sym c.before.fits3.ensures ∙ not-false c.before.fits3.result c.if2.false
 
 module _ (c : tie.Else3) where
   abbrev m : Model
   m = c.before.before.before.before.before.before.before.before.args.self
 
-  transitions : every (transition-declared m.header) (given-transitions m) ≡ true
+  transitions : every (transition_declared m.header) (given_transitions m) ≡ true
   transitions = sym c.before.transitions-declared.ensures ∙ not-false c.before.transitions-declared.result c.if3.false
 
 returns : tie.Need-returns
@@ -52,7 +52,7 @@ reference-outcome-requires : tie.Need-reference-outcome-requires
 reference-outcome-requires c κs =
     let o = c.before.before in
     let e = o.before in
-    let rows = past-rows (m e).header (given-rows (m e)) Found (sym o.rows-outcome.ensures ∙ c.enum_told.given.1) in
+    let rows = past-rows (m e).header (given_rows (m e)) Found (sym o.rows-outcome.ensures ∙ c.enum_told.given.1) in
     (all_map (λ r h. terms-small r.entries h.1) rows.0, reference-within _ _ (reference e.before.before), parameters-within (m e).header (header e.before.before.before.before))
 
 returns-4 : tie.Need-returns-4
@@ -64,7 +64,7 @@ returns-4 c =
       header e.before.before.before.before,
       reference e.before.before,
       transitions e,
-      rows-found (m e).header (given-rows (m e)) _ (sym o.rows-outcome.ensures ∙ c.before.enum_told.given.1),
+      rows-found (m e).header (given_rows (m e)) _ (sym o.rows-outcome.ensures ∙ c.before.enum_told.given.1),
     ) c.reference-outcome.ensures
 
 returns-5 : tie.Need-returns-5
@@ -77,11 +77,11 @@ returns-5 c =
       header e.before.before.before.before,
       reference e.before.before,
       transitions e,
-      rows-refused (m e).header (given-rows (m e)) _ g.0.0 (sym o.rows-outcome.ensures ∙ g.1),
+      rows-refused (m e).header (given_rows (m e)) _ g.0.0 (sym o.rows-outcome.ensures ∙ g.1),
     )
 
-pub accepted-spec : {M : Type 1} → statement M
-accepted-spec =
+pub accepted_spec : {M : Type 1} → statement M
+accepted_spec =
     tie.close (tie.spec
     (λ c κs. search rules)
     returns

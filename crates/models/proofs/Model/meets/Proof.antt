@@ -9,26 +9,26 @@ use mathlib.Core.List.{List}
 use lib.IntN.{ℤ}
 use lib.ListN.{length, get_or, drop}
 use Rattle.integers.specs.Lists.{every}
-use Rattle.integers.proofs.Loops.{every-stops, every-turn, every-done}
+use Rattle.integers.proofs.Loops.{every_stops, every_turn, every-done}
 use Rattle.rows.specs.Rows.{holds_at, Small}
 use Rattle.models.specs.declared.Model.{Model}
 use Rattle.models.specs.declared.ModelRow.{ModelRow}
-use Rattle.models.specs.Automaton.{given-rows, row_of, is-of, rows_of}
-use Rattle.models.proofs.Tables.{long-mapped, no_row, held-few, held-length, held_at, all-at, every-owned}
+use Rattle.models.specs.Automaton.{given_rows, row_of, is_of, rows_of}
+use Rattle.models.proofs.Tables.{long_mapped, no_row, held-few, held-length, held_at, all-at, every-owned}
 use Rattle.models.proofs.Model.meets.Statement.{statement}
 use Rattle.models.proofs.Model.meets.Tie as tie
 
 abbrev met : ℕ → List ℤ → ModelRow → Bool
-met kind setting r = not (is-of kind 0 r) || holds_at setting (row_of r)
+met kind setting r = not (is_of kind 0 r) || holds_at setting (row_of r)
 
 abbrev invariant-loop : tie.invariant-loop
-invariant-loop kind setting self n i₀ i = (i ≤ n) × (n ≤ 128) × (every (met kind setting) (drop i (given-rows self)) ≡ every (met kind setting) (given-rows self))
+invariant-loop kind setting self n i₀ i = (i ≤ n) × (n ≤ 128) × (every (met kind setting) (drop i (given_rows self)) ≡ every (met kind setting) (given_rows self))
 
 abbrev decreases-loop : tie.decreases-loop
 decreases-loop kind setting self n i₀ i = n - i
 
 long : (c : tie.Start invariant-loop decreases-loop) → length c.args.t1.rows ≡ 128
-long c = search (rules, long-mapped)
+long c = search (rules, long_mapped)
 
 -- the table, and the test of each row
 module _ (l : tie.At-loop invariant-loop decreases-loop) where
@@ -38,14 +38,14 @@ module _ (l : tie.At-loop invariant-loop decreases-loop) where
   abbrev test : ModelRow → Bool
   test = met l.before.before.args.kind l.before.before.args.setting
 
-  all : length (given-rows m) ≡ l.before.held.result
+  all : length (given_rows m) ≡ l.before.held.result
   all = held-length m.count m.rows (long l.before.before) ∙ sym l.before.held.ensures
 
-  same : every test (given-rows m) ≡ every (holds_at l.before.before.args.setting) (rows_of m l.before.before.args.kind 0)
+  same : every test (given_rows m) ≡ every (holds_at l.before.before.args.setting) (rows_of m l.before.before.args.kind 0)
   unfolding rows_of
-  same = every-owned (holds_at l.before.before.args.setting) l.before.before.args.kind 0 (given-rows m)
+  same = every-owned (holds_at l.before.before.args.setting) l.before.before.args.kind 0 (given_rows m)
 
-  row_is : l.loop.i < l.before.held.result → get_or (given-rows m) l.loop.i no_row ≡ get_or m.rows l.loop.i no_row
+  row_is : l.loop.i < l.before.held.result → get_or (given_rows m) l.loop.i no_row ≡ get_or m.rows l.loop.i no_row
   row_is h = held_at m.count m.rows (long l.before.before) l.loop.i no_row (rw l.before.held.ensures at h)
 
 loop-holds : tie.Need-loop-init invariant-loop decreases-loop
@@ -56,14 +56,14 @@ is-met-requires c κs =
     let l = c.before.before in
     let p = l.before.before.requires in
     let h : l.loop.i < l.before.held.result = omega arith in
-    let a : Small (get_or (given-rows (m l)) l.loop.i no_row).entries = all-at l.loop.i no_row (λ i. zero-le) p.0 in
+    let a : Small (get_or (given_rows (m l)) l.loop.i no_row).entries = all-at l.loop.i no_row (λ i. zero-le) p.0 in
     (rw (row_is l h) at a, p.1)
 
 returns : tie.Need-returns invariant-loop decreases-loop
 returns c =
     let l = c.before.before.before.before in
     let h : l.loop.i < l.before.held.result = omega arith in
-    every-stops (test l) (given-rows (m l)) l.loop.i no_row (rw (all l) h)
+    every_stops (test l) (given_rows (m l)) l.loop.i no_row (rw (all l) h)
     (rw (row_is l h) (sym c.before.is-met.ensures ∙ not-true c.before.is-met.result c.if1.true)) ∙ l.loop.invariant.2 ∙ same l
 
 loop-again : tie.Need-loop-preserved invariant-loop decreases-loop
@@ -72,17 +72,17 @@ loop-again c =
     let h : l.loop.i < l.before.held.result = omega arith in (
       search rules,
       l.loop.invariant.1,
-      every-turn (test l) (given-rows (m l)) l.loop.i no_row (rw (all l) h)
+      every_turn (test l) (given_rows (m l)) l.loop.i no_row (rw (all l) h)
           (rw (row_is l h) (sym c.before.is-met.ensures ∙ not-false c.before.is-met.result c.if1.false)) ∙ l.loop.invariant.2,
     )
 
 returns-2 : tie.Need-returns-2 invariant-loop decreases-loop
 returns-2 c =
     let l = c.before in
-    every-done (test l) (given-rows (m l)) l.loop.i no_row (omega (arith, all l)) ∙ l.loop.invariant.2 ∙ same l
+    every-done (test l) (given_rows (m l)) l.loop.i no_row (omega (arith, all l)) ∙ l.loop.invariant.2 ∙ same l
 
-pub meets-spec : {M : Type 1} → statement M
-meets-spec =
+pub meets_spec : {M : Type 1} → statement M
+meets_spec =
     tie.close (tie.spec
     invariant-loop
     decreases-loop

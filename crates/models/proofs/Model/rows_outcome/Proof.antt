@@ -5,24 +5,24 @@ use native.Mathlib.Omega.{arith}
 use borrow.Author.Rules.{rules}
 use lib.ListN.{length, get_or, drop}
 use mathlib.Core.List.{[], ◌∷◌}
-use Rattle.integers.proofs.Loops.{drop-turn}
+use Rattle.integers.proofs.Loops.{drop_turn}
 use Rattle.sets.specs.declared.Outcome.TheVariants.{Found}
 use Rattle.models.specs.declared.Model.{Model}
 use Rattle.models.specs.declared.ModelRow.{ModelRow}
-use Rattle.models.specs.Automaton.{given-rows}
-use Rattle.models.specs.Acceptance.{rows-accepted}
-use Rattle.models.proofs.Tables.{long-mapped, no_row, held-few, held-length, held_at, row-stops, row-passes, rows-done}
+use Rattle.models.specs.Automaton.{given_rows}
+use Rattle.models.specs.Acceptance.{rows_accepted}
+use Rattle.models.proofs.Tables.{long_mapped, no_row, held-few, held-length, held_at, row_stops, row-passes, rows-done}
 use Rattle.models.proofs.Model.rows_outcome.Statement.{statement}
 use Rattle.models.proofs.Model.rows_outcome.Tie as tie
 
 abbrev invariant-loop : tie.invariant-loop
-invariant-loop self h n i₀ i = (i ≤ n) × (n ≤ 128) × (rows-accepted self.header (drop i (given-rows self)) Found ≡ rows-accepted self.header (given-rows self) Found)
+invariant-loop self h n i₀ i = (i ≤ n) × (n ≤ 128) × (rows_accepted self.header (drop i (given_rows self)) Found ≡ rows_accepted self.header (given_rows self) Found)
 
 abbrev decreases-loop : tie.decreases-loop
 decreases-loop self h n i₀ i = n - i
 
 long : (c : tie.Start invariant-loop decreases-loop) → length c.args.t1.rows ≡ 128
-long c = search (rules, long-mapped)
+long c = search (rules, long_mapped)
 
 -- the table, and its row that a turn looks at
 module _ (l : tie.At-loop invariant-loop decreases-loop) where
@@ -30,17 +30,17 @@ module _ (l : tie.At-loop invariant-loop decreases-loop) where
   m = l.before.before.before.args.t1
 
   abbrev r : ModelRow
-  r = get_or (given-rows m) l.loop.i no_row
+  r = get_or (given_rows m) l.loop.i no_row
 
-  all : length (given-rows m) ≡ l.before.held.result
+  all : length (given_rows m) ≡ l.before.held.result
   all = held-length m.count m.rows (long l.before.before.before) ∙ sym l.before.held.ensures
 
-  left : l.loop.i < l.before.held.result → rows-accepted m.header (r ∷ drop (l.loop.i + 1) (given-rows m)) Found ≡ rows-accepted m.header (given-rows m) Found
-  left h = rw (drop-turn (given-rows m) l.loop.i no_row (rw all h)) at l.loop.inv.2
+  left : l.loop.i < l.before.held.result → rows_accepted m.header (r ∷ drop (l.loop.i + 1) (given_rows m)) Found ≡ rows_accepted m.header (given_rows m) Found
+  left h = rw (drop_turn (given_rows m) l.loop.i no_row (rw all h)) at l.loop.inv.2
 
 read : (c : tie.After-outcome invariant-loop decreases-loop) →
     let l = c.before.before.before in
-    l.loop.i < l.before.held.result → c.outcome.result ≡ rows-accepted (m l).header (r l ∷ []) Found
+    l.loop.i < l.before.held.result → c.outcome.result ≡ rows_accepted (m l).header (r l ∷ []) Found
 read c h =
     let l = c.before.before.before in
     rw (held_at (m l).count (m l).rows (long l.before.before.before) l.loop.i no_row (rw l.before.held.ensures at h)) c.outcome.ensures
@@ -54,7 +54,7 @@ returns c =
     let l = o.before.before.before in
     let h : l.loop.i < l.before.held.result = omega arith in
     let g = c.before.o.given in
-    sym (row-stops (m l).header (r l) (drop (l.loop.i + 1) (given-rows (m l))) Found g.0.0 (sym (read o h) ∙ g.1)) ∙ left l h
+    sym (row_stops (m l).header (r l) (drop (l.loop.i + 1) (given_rows (m l))) Found g.0.0 (sym (read o h) ∙ g.1)) ∙ left l h
 
 loop-again : tie.Need-loop-preserved invariant-loop decreases-loop
 loop-again c =
@@ -63,16 +63,16 @@ loop-again c =
     let h : l.loop.i < l.before.held.result = omega arith in (
       search rules,
       l.loop.invariant.1,
-      sym (row-passes (m l).header (r l) (drop (l.loop.i + 1) (given-rows (m l))) Found (sym (read o h) ∙ c.enum_told.given.1)) ∙ left l h,
+      sym (row-passes (m l).header (r l) (drop (l.loop.i + 1) (given_rows (m l))) Found (sym (read o h) ∙ c.enum_told.given.1)) ∙ left l h,
     )
 
 returns-2 : tie.Need-returns-2 invariant-loop decreases-loop
 returns-2 c =
     let l = c.before in
-    rows-done (m l).header (given-rows (m l)) l.loop.i (omega (arith, all l)) ∙ l.loop.invariant.2
+    rows-done (m l).header (given_rows (m l)) l.loop.i (omega (arith, all l)) ∙ l.loop.invariant.2
 
-pub rows-outcome-spec : {M : Type 1} → statement M
-rows-outcome-spec =
+pub rows_outcome_spec : {M : Type 1} → statement M
+rows_outcome_spec =
     tie.close (tie.spec
     invariant-loop
     decreases-loop

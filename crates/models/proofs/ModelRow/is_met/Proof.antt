@@ -10,12 +10,12 @@ holds-requires c κs = let p = c.before.before.before.requires in (rw c.row.ensu
 returns : tie.Need-returns
 returns c =
     let t = c.before.before in
-    rw (sym t.before.is-of.ensures ∙ t.if1.true) (rw c.before.row.ensures at c.holds.ensures)
+    rw (sym t.before.is_of.ensures ∙ t.if1.true) (rw c.before.row.ensures at c.holds.ensures)
 
 returns-2 : tie.Need-returns-2
-returns-2 c = rw (sym c.before.is-of.ensures ∙ c.if1.false)
+returns-2 c = rw (sym c.before.is_of.ensures ∙ c.if1.false)
 
-pub is-met-spec : {M : Type 1} → statement M
-is-met-spec = tie.close (tie.spec
+pub is_met_spec : {M : Type 1} → statement M
+is_met_spec = tie.close (tie.spec
     (λ c κs. search rules)
     (λ c κs. search rules) holds-requires returns returns-2)

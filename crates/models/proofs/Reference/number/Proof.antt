@@ -28,8 +28,8 @@ returns-2 c =
 returns-3 : tie.Need-returns-3
 returns-3 c = let s = c.before.before.before.args in sym (reference-past s.self.denominator s.self.numerators s.parameters s.i c.if2.false)
 
-pub number-spec : {M : Type 1} → statement M
-number-spec =
+pub number_spec : {M : Type 1} → statement M
+number_spec =
     tie.close (tie.spec
     (λ c κs. search rules)
     returns

@@ -9,18 +9,18 @@ use mathlib.Core.List.{List, map}
 use lib.ListN.{get_or, drop}
 use lib.IntN.{ℤ, pos}
 use mir.Syntax.{w32}
-use Rattle.integers.specs.Limits.{given-limit}
+use Rattle.integers.specs.Limits.{given_limit}
 use Rattle.integers.specs.Lists.{every, from}
 use Rattle.integers.proofs.Bounds.{back}
-use Rattle.integers.proofs.Loops.{every-stops, every-turn, every-done}
+use Rattle.integers.proofs.Loops.{every_stops, every_turn, every-done}
 use Rattle.rows.specs.Rows.{at}
-use Rattle.models.specs.Acceptance.{between-whole}
+use Rattle.models.specs.Acceptance.{between_whole}
 use Rattle.models.proofs.Setting.{at-declared, length-counted}
 use Rattle.models.proofs.Reference.numerators_fit.Statement.{statement}
 use Rattle.models.proofs.Reference.numerators_fit.Tie as tie
 
 abbrev small : ℤ → Bool
-small z = between-whole 0 z given-limit
+small z = between_whole 0 z given_limit
 
 abbrev counted : List ℤ → ℕ → List ℤ
 counted ns n = map (λ i. at ns i) (from 0 n)
@@ -51,7 +51,7 @@ returns : tie.Need-returns invariant-loop decreases-loop
 returns c =
     let l = c.before.before.before.before in
     let h : l.loop.i < count l = omega arith in
-    every-stops small (counted (ns l) (count l)) l.loop.i (pos 0) (omega (arith, length-counted (λ i. at (ns l) i) 0 (count l)))
+    every_stops small (counted (ns l) (count l)) l.loop.i (pos 0) (omega (arith, length-counted (λ i. at (ns l) i) 0 (count l)))
     (sym (read c.before h) ∙ not-true c.before.given-from.result c.if1.true) ∙ l.loop.invariant.1
 
 loop-again : tie.Need-loop-preserved invariant-loop decreases-loop
@@ -59,7 +59,7 @@ loop-again c =
     let l = c.before.before.before.before in
     let h : l.loop.i < count l = omega arith in (
       search rules,
-      every-turn small (counted (ns l) (count l)) l.loop.i (pos 0) (omega (arith, length-counted (λ i. at (ns l) i) 0 (count l)))
+      every_turn small (counted (ns l) (count l)) l.loop.i (pos 0) (omega (arith, length-counted (λ i. at (ns l) i) 0 (count l)))
           (sym (read c.before h) ∙ not-false c.before.given-from.result c.if1.false) ∙ l.loop.invariant.1,
     )
 
@@ -68,8 +68,8 @@ returns-2 c =
     let l = c.before in
     every-done small (counted (ns l) (count l)) l.loop.i (pos 0) (omega (arith, length-counted (λ i. at (ns l) i) 0 (count l))) ∙ l.loop.invariant.1
 
-pub numerators-fit-spec : {M : Type 1} → statement M
-numerators-fit-spec =
+pub numerators_fit_spec : {M : Type 1} → statement M
+numerators_fit_spec =
     tie.close (tie.spec
     invariant-loop
     decreases-loop

@@ -9,13 +9,13 @@ use mir.Syntax.{w64}
 use Rattle.integers.proofs.Bounds.{back}
 use Rattle.integers.proofs.Loops.{front, front-none, front-more}
 use Rattle.rows.specs.Rows.{at}
-use Rattle.models.specs.Automaton.{reference-list}
+use Rattle.models.specs.Automaton.{reference_list}
 use Rattle.models.proofs.Setting.{front-padded}
 use Rattle.models.proofs.Reference.setting.Statement.{statement}
 use Rattle.models.proofs.Reference.setting.Tie as tie
 
 abbrev invariant-loop : tie.invariant-loop
-invariant-loop self parameters to₀ i₀ to i = (i ≤ 9) × (to ≡ front (λ k. at (reference-list self parameters) k) i (replicate 9 (pos 0)))
+invariant-loop self parameters to₀ i₀ to i = (i ≤ 9) × (to ≡ front (λ k. at (reference_list self parameters) k) i (replicate 9 (pos 0)))
 
 abbrev decreases-loop : tie.decreases-loop
 decreases-loop self parameters to₀ i₀ to i = 9 - i
@@ -30,10 +30,10 @@ returns : tie.Need-returns invariant-loop decreases-loop
 returns c =
     let l = c.before in
     let e : l.loop.i ≡ 9 = omega arith in
-    rw (l.loop.invariant.1, e, front-padded 9 (reference-list l.before.args.self l.before.args.parameters) (replicate 9 (pos 0)) refl)
+    rw (l.loop.invariant.1, e, front-padded 9 (reference_list l.before.args.self l.before.args.parameters) (replicate 9 (pos 0)) refl)
 
-pub setting-spec : {M : Type 1} → statement M
-setting-spec =
+pub setting_spec : {M : Type 1} → statement M
+setting_spec =
     tie.close (tie.spec
     invariant-loop
     decreases-loop

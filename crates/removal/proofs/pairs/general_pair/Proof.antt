@@ -11,5 +11,5 @@ paired-requires c κs =
 returns : tie.Need-returns
 returns c = rw (c.before.before.read.ensures, c.before.read2.ensures) at c.paired.ensures
 
-pub general-pair-spec : {M : Type 1} → statement M
-general-pair-spec = tie.close (tie.spec (λ c κs. search rules) (λ c κs. search rules) paired-requires returns)
+pub general_pair_spec : {M : Type 1} → statement M
+general_pair_spec = tie.close (tie.spec (λ c κs. search rules) (λ c κs. search rules) paired-requires returns)

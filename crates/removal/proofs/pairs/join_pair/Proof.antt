@@ -9,18 +9,18 @@ use lib.ListN.{get_or}
 use lib.IntN.{ℤ, pos, nat_abs, ◌+ℤ◌}
 use mir.Syntax.{w32}
 use mir.Val.{SFits}
-use Rattle.integers.specs.Limits.{entry-limit}
-use Rattle.integers.proofs.Bounds.{back, fits-abs, natAbs-add, bits-zero}
+use Rattle.integers.specs.Limits.{entry_limit}
+use Rattle.integers.proofs.Bounds.{back, fits_abs, natAbs_add, bits-zero}
 use Rattle.integers.proofs.Tests.{zero_of}
 use Rattle.rows.specs.declared.Row.{Row}
 use Rattle.entries.proofs.Sums.{length-plus}
 use Rattle.rows.specs.declared.Fate.TheVariants.{TooLarge}
-use Rattle.rows.specs.Rows.{all_small, limited, divided-down, added, paired, row_at}
-use Rattle.rows.proofs.Adding.{paired-added, has-one-limited, limited-kept, limited-large}
-use Rattle.rows.proofs.Dividing.{Wide, settled-wide}
+use Rattle.rows.specs.Rows.{all_small, limited, divided_down, added, paired, row_at}
+use Rattle.rows.proofs.Adding.{paired-added, has_one-limited, limited-kept, limited_large}
+use Rattle.rows.proofs.Dividing.{Wide, settled_wide}
 use Rattle.rows.proofs.Stores.{row_back}
-use Rattle.sets.proofs.Stores.{wide-row-at}
-use Rattle.sets.proofs.Steps.{put-large}
+use Rattle.sets.proofs.Stores.{wide-row_at}
+use Rattle.sets.proofs.Steps.{put_large}
 use Rattle.removal.specs.Removal.{entry}
 use Rattle.removal.proofs.Places.{entry_at}
 use Rattle.removal.proofs.pairs.join_pair.Statement.{statement}
@@ -40,9 +40,9 @@ sum_fits : (c : tie.Start) → SFits w32 (sum c)
 sum_fits c =
     let z = c.args in
     let s = z.from.now in
-    let x : nat_abs (get_or s (z.p + z.v) (pos 0)) ≤ entry-limit = rw (entry_at z.v s z.p c.requires.3) at (c.requires.1.small z.v) in
-    let y : nat_abs (get_or s (z.q + z.v) (pos 0)) ≤ entry-limit = rw (entry_at z.v s z.q c.requires.3) at (c.requires.2.small z.v) in
-    fits-abs _ (omega (arith, natAbs-add (get_or s (z.p + z.v) (pos 0)) (get_or s (z.q + z.v) (pos 0))))
+    let x : nat_abs (get_or s (z.p + z.v) (pos 0)) ≤ entry_limit = rw (entry_at z.v s z.p c.requires.3) at (c.requires.1.small z.v) in
+    let y : nat_abs (get_or s (z.q + z.v) (pos 0)) ≤ entry_limit = rw (entry_at z.v s z.q c.requires.3) at (c.requires.2.small z.v) in
+    fits_abs _ (omega (arith, natAbs_add (get_or s (z.p + z.v) (pos 0)) (get_or s (z.q + z.v) (pos 0))))
 
 add-if1-3 : tie.Need-overflow-add-if1-3
 add-if1-3 c =
@@ -51,7 +51,7 @@ add-if1-3 c =
     rw (back w32 (get_or z.from.now (z.p + z.v) (pos 0)) c.before.if12.given, back w32 (get_or z.from.now (z.q + z.v) (pos 0)) c.if13.given) (sum_fits s)
 
 -- where it is zero the pair is divided down to what the plain sum is
-alike : (c : tie.Else1) → (let s = c.before.before.before in divided-down (paired s.args.v (first s) (second s)) ≡ divided-down (added (first s) (second s)))
+alike : (c : tie.Else1) → (let s = c.before.before.before in divided_down (paired s.args.v (first s) (second s)) ≡ divided_down (added (first s) (second s)))
 alike c =
     let s = c.before.before.before in
     let z = s.args in
@@ -73,21 +73,21 @@ is_sum c = rw (c.before.before.read.ensures, c.before.read2.ensures) at c.added.
 sum-wide : (c : tie.Start) → Wide (added (first c) (second c))
 sum-wide c =
     let m = c.args.from.now in
-    let e = wide-row-at m c.args.p c.requires.1.room in
-    length-plus (first c).entries (second c).entries (e ∙ sym (wide-row-at m c.args.q c.requires.2.room)) ∙ e
+    let e = wide-row_at m c.args.p c.requires.1.room in
+    length-plus (first c).entries (second c).entries (e ∙ sym (wide-row_at m c.args.q c.requires.2.room)) ∙ e
 
 -- with an entry 1 or −1 it is divided down already
-is-limited : (c : tie.Then2) → (let s = c.before.before.before.before.before.before.before.before in divided-down (paired s.args.v (first s) (second s)) ≡ limited (added (first s) (second s)))
+is-limited : (c : tie.Then2) → (let s = c.before.before.before.before.before.before.before.before in divided_down (paired s.args.v (first s) (second s)) ≡ limited (added (first s) (second s)))
 is-limited c =
     let a = c.before.before in
-    alike a.before.before.before ∙ has-one-limited _ (rw (is_sum a) at (sym c.before.has_one.ensures ∙ c.if2.true))
+    alike a.before.before.before ∙ has_one-limited _ (rw (is_sum a) at (sym c.before.has_one.ensures ∙ c.if2.true))
 
 returns : tie.Need-returns
 returns c = rw c.before.before.general-pair.ensures at c.before.put.ensures
 
 -- within the limit or not
-within : (c : tie.After-within-limit) → (b : Bool) → c.within-limit.result ≡ b → (let s = c.before.before.before.before.before.before.before.before.before.before in all_small (added (first s) (second s)).entries ≡ b)
-within c b e = rw (is_sum c.before.before.before.before) at (sym c.within-limit.ensures ∙ e)
+within : (c : tie.After-within-limit) → (b : Bool) → c.within_limit.result ≡ b → (let s = c.before.before.before.before.before.before.before.before.before.before in all_small (added (first s) (second s)).entries ≡ b)
+within c b e = rw (is_sum c.before.before.before.before) at (sym c.within_limit.ensures ∙ e)
 
 returns-2 : tie.Need-returns-2
 returns-2 c =
@@ -104,8 +104,8 @@ returns-3 c =
     let l = c.before.before in
     let s = l.before.before.before.before.before.before.before.before.before.before in
     let z = s.args in
-    let e = is-limited l.before.before ∙ limited-large _ (within l false c.before.if3.false) in
-    rw (e, c.refused.ensures) (put-large z.to.now z.c (first s) TooLarge refl)
+    let e = is-limited l.before.before ∙ limited_large _ (within l false c.before.if3.false) in
+    rw (e, c.refused.ensures) (put_large z.to.now z.c (first s) TooLarge refl)
 
 returns-4 : tie.Need-returns-4
 returns-4 c =
@@ -114,11 +114,11 @@ returns-4 c =
     let a = d.before.before.before.before in
     let s = a.before.before.before.before.before.before in
     let r = added (first s) (second s) in
-    let back : row_at d.divided-into.new.1.0 0 ≡ (divided-down r).row = rw (d.divided-into.ensures.1, is_sum a) (row_back (divided-down r).row [] (settled-wide r (sum-wide s))) in
-    rw (alike a.before.before.before) (rw (back, d.divided-into.ensures.0, is_sum a) at p.put-settled.ensures)
+    let back : row_at d.divided-into.new.1.0 0 ≡ (divided_down r).row = rw (d.divided-into.ensures.1, is_sum a) (row_back (divided_down r).row [] (settled_wide r (sum-wide s))) in
+    rw (alike a.before.before.before) (rw (back, d.divided-into.ensures.0, is_sum a) at p.put_settled.ensures)
 
-pub join-pair-spec : {M : Type 1} → statement M
-join-pair-spec =
+pub join_pair_spec : {M : Type 1} → statement M
+join_pair_spec =
     tie.close
     (tie.spec
     (λ c. search rules)

@@ -9,11 +9,11 @@ use Rattle.integers.specs.Lists.{pairs}
 use Rattle.integers.proofs.Whole.{IsPos}
 use Rattle.rows.specs.Rows.{paired}
 use Rattle.sets.specs.Stores.{Left, progress, Ready, put_all}
-use Rattle.sets.proofs.Steps.{ready-left, put-all-progress, put-all-ready, put-all-left}
+use Rattle.sets.proofs.Steps.{ready_left, put_all-progress, put_all_ready, put_all-left}
 use Rattle.removal.specs.Removal.{entry}
 use Rattle.removal.specs.Pairs.{row_of, rows_of, SmallAt}
 use Rattle.removal.proofs.Places.{pairs-wide}
-use Rattle.removal.proofs.Joins.{next-is, put-row-turn, put-row-done}
+use Rattle.removal.proofs.Joins.{next-is, put_row_turn, put_row-done}
 use Rattle.removal.proofs.pairs.join_pairs.Statement.{statement}
 use Rattle.removal.proofs.pairs.join_pairs.Tie as tie
 
@@ -50,9 +50,9 @@ loop-again c =
     let d = p.join-with.ensures in (
       omega arith,
       search rules,
-      put-all-ready rs wide _ _ _ _ o.invariant.2 d,
-      put-all-left rs wide _ _ _ _ o.invariant.2 d z.to.now s.requires.0.long o.invariant.3,
-      put-row-turn z.uppers.now z.u o.i s.requires.4 z.v m (rows_of m lows) (omega arith) _ _ (put-all-progress rs wide _ _ _ _ o.invariant.2 d) ∙ o.invariant.4,
+      put_all_ready rs wide _ _ _ _ o.invariant.2 d,
+      put_all-left rs wide _ _ _ _ o.invariant.2 d z.to.now s.requires.0.long o.invariant.3,
+      put_row_turn z.uppers.now z.u o.i s.requires.4 z.v m (rows_of m lows) (omega arith) _ _ (put_all-progress rs wide _ _ _ _ o.invariant.2 d) ∙ o.invariant.4,
     )
 
 returns : tie.Need-returns invariant-loop decreases-loop
@@ -62,13 +62,13 @@ returns c =
     let s = l.before.before.before in
     let z = s.args in
     let m = z.from.now in
-    rw (← o.invariant.4, put-row-done z.uppers.now z.u o.i s.requires.4 z.v m (rows_of m (take z.l z.lowers.now)) (omega arith) (progress o.to o.d)) o.invariant.3
+    rw (← o.invariant.4, put_row-done z.uppers.now z.u o.i s.requires.4 z.v m (rows_of m (take z.l z.lowers.now)) (omega arith) (progress o.to o.d)) o.invariant.3
 
-pub join-pairs-spec : {M : Type 1} → statement M
-join-pairs-spec =
+pub join_pairs_spec : {M : Type 1} → statement M
+join_pairs_spec =
     tie.close
     (tie.spec invariant-loop decreases-loop
-    (λ c. let s = c.before.before in (omega arith, refl, s.requires.0, ready-left s.args.to.now s.args.c s.requires.0, refl))
+    (λ c. let s = c.before.before in (omega arith, refl, s.requires.0, ready_left s.args.to.now s.args.c s.requires.0, refl))
     (λ c. omega (arith, c.before.before.before.before.before.requires.4))
     (λ c. omega (arith, (next-upper c.before).0.room))
     (λ c. omega (arith, (next-upper c.before).0.room))

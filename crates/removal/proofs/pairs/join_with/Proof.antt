@@ -5,15 +5,15 @@ use Prim.Native.Nat.{◌-◌, ◌*◌, ◌≤◌}
 use native.Mathlib.Omega.{arith}
 use borrow.Author.Rules.{rules}
 use lib.ListN.{length, get_or, take, drop}
-use Rattle.rows.specs.Rows.{entry-count, divided-down, paired, row_at}
-use Rattle.rows.proofs.Dividing.{divided-down-small, divided-down-wide}
+use Rattle.rows.specs.Rows.{entry_count, divided_down, paired, row_at}
+use Rattle.rows.proofs.Dividing.{divided_down-small, divided_down-wide}
 use Rattle.rows.proofs.Pairing.{paired-wide}
 use Rattle.sets.specs.declared.Joined.{Joined}
 use Rattle.sets.specs.Stores.{Left, progress, Ready, put_all}
-use Rattle.sets.proofs.Stores.{wide-row-at}
-use Rattle.sets.proofs.Steps.{ready-left, put-progress, put-ready, put-left}
+use Rattle.sets.proofs.Stores.{wide-row_at}
+use Rattle.sets.proofs.Steps.{ready_left, put-progress, put_ready, put-left}
 use Rattle.removal.specs.Pairs.{rows_of, SmallAt}
-use Rattle.removal.proofs.Joins.{next-is, put-turn, put-done}
+use Rattle.removal.proofs.Joins.{next-is, put_turn, put-done}
 use Rattle.removal.proofs.pairs.join_with.Statement.{statement}
 use Rattle.removal.proofs.pairs.join_with.Tie as tie
 
@@ -45,16 +45,16 @@ loop-again c =
     let m = z.from.now in
     let q = get_or z.lowers.now l.loop.j 0 * 17 in
     let r = paired z.v (row_at m z.p) (row_at m q) in
-    let x = divided-down r in
+    let x = divided_down r in
     let d = p.join-pair.ensures in
-    let small = divided-down-small r in
-    let wide = divided-down-wide r (paired-wide z.v entry-count (row_at m z.p) (row_at m q) (wide-row-at m z.p s.requires.1.room) (wide-row-at m q (next_small t).room)) in
+    let small = divided_down-small r in
+    let wide = divided_down-wide r (paired-wide z.v entry_count (row_at m z.p) (row_at m q) (wide-row_at m z.p s.requires.1.room) (wide-row_at m q (next_small t).room)) in
     let ready = l.loop.invariant.2 in (
       omega arith,
       search rules,
-      put-ready x.fate x.row small wide _ _ _ _ ready d,
+      put_ready x.fate x.row small wide _ _ _ _ ready d,
       put-left x.fate x.row small wide _ _ _ _ ready d z.to.now s.requires.0.long l.loop.invariant.3,
-      put-turn z.lowers.now z.l l.loop.j s.requires.4 z.v m z.p (omega arith) _ _ (put-progress x.fate x.row small wide _ _ _ _ ready d) ∙ l.loop.invariant.4,
+      put_turn z.lowers.now z.l l.loop.j s.requires.4 z.v m z.p (omega arith) _ _ (put-progress x.fate x.row small wide _ _ _ _ ready d) ∙ l.loop.invariant.4,
     )
 
 returns : tie.Need-returns invariant-loop decreases-loop
@@ -65,11 +65,11 @@ returns c =
     let z = s.args in
     rw (← o.invariant.4, put-done z.lowers.now z.l o.j s.requires.4 z.v z.from.now z.p (omega arith) (progress o.to (record { rows = o.rows; outcome = o.outcome }))) o.invariant.3
 
-pub join-with-spec : {M : Type 1} → statement M
-join-with-spec =
+pub join_with_spec : {M : Type 1} → statement M
+join_with_spec =
     tie.close
     (tie.spec invariant-loop decreases-loop
-    (λ c. let s = c.before in (omega arith, refl, s.requires.0, ready-left s.args.to.now s.args.c s.requires.0, refl))
+    (λ c. let s = c.before in (omega arith, refl, s.requires.0, ready_left s.args.to.now s.args.c s.requires.0, refl))
     (λ c. omega (arith, c.before.before.before.before.requires.4))
     (λ c. omega (arith, (next_small c.before).room))
     (λ c. omega (arith, (next_small c.before).room))

@@ -6,26 +6,26 @@ use native.Mathlib.Omega.{arith}
 use lib.ListN.{length, take, length-set}
 use lib.Seq.{length-take-le}
 use Rattle.integers.specs.Signs.{isAbove, isBelow}
-use Rattle.sets.specs.Stores.{with_rows, set-in}
-use Rattle.sets.proofs.Stores.{with-rows-none}
+use Rattle.sets.specs.Stores.{with_rows, set_in}
+use Rattle.sets.proofs.Stores.{with_rows-none}
 use Rattle.removal.specs.Removal.{entry, untouched}
-use Rattle.removal.specs.Pairs.{row_of, numbers-where}
-use Rattle.removal.proofs.Places.{below-read, zero-read, other-read, zero-only, below-only, above-left, number-listed, number_passed, untouched-none, untouched-kept, untouched-passed}
+use Rattle.removal.specs.Pairs.{row_of, numbers_where}
+use Rattle.removal.proofs.Places.{below-read, zero-read, other_read, zero-only, below-only, above-left, number_listed, number_passed, untouched-none, untouched-kept, untouched-passed}
 use Rattle.removal.proofs.pairs.split.Statement.{statement}
 use Rattle.removal.proofs.pairs.split.Tie as tie
 
 abbrev invariant-loop : tie.invariant-loop
 invariant-loop from n v to₀ lowers₀ uppers₀ k₀ l₀ u₀ i₀ to lowers uppers k l u i =
     (i ≤ n) × (k ≤ i) × (l ≤ i) × (u ≤ i) × (length to ≡ length to₀) × (length lowers ≡ length lowers₀) × (length uppers ≡ length uppers₀) ×
-    (k ≡ length (untouched v (set-in from i))) × (to ≡ with_rows (untouched v (set-in from i)) to₀) ×
-    (take l lowers ≡ numbers-where isBelow v from i) × (take u uppers ≡ numbers-where isAbove v from i)
+    (k ≡ length (untouched v (set_in from i))) × (to ≡ with_rows (untouched v (set_in from i)) to₀) ×
+    (take l lowers ≡ numbers_where isBelow v from i) × (take u uppers ≡ numbers_where isAbove v from i)
 
 abbrev decreases-loop : tie.decreases-loop
 decreases-loop from n v to₀ lowers₀ uppers₀ k₀ l₀ u₀ i₀ to lowers uppers k l u i = n - i
 
 loop-holds : tie.Need-loop-init invariant-loop decreases-loop
-unfolding numbers-where
-loop-holds c = (omega arith, omega arith, omega arith, omega arith, refl, refl, refl, rw untouched-none refl, rw untouched-none (sym (with-rows-none c.before.before.args.to.now)), refl, refl)
+unfolding numbers_where
+loop-holds c = (omega arith, omega arith, omega arith, omega arith, refl, refl, refl, rw untouched-none refl, rw untouched-none (sym (with_rows-none c.before.before.args.to.now)), refl, refl)
 
 loop-again : tie.Need-loop-preserved invariant-loop decreases-loop
 loop-again c =
@@ -41,7 +41,7 @@ loop-again c =
     let lows = number_passed isBelow v m i o.lowers o.l o.invariant.9 in
     let ups = number_passed isAbove v m i o.uppers o.u o.invariant.10 in
     let rest = untouched-passed v m i o.k o.to z.to.now o.invariant.7 o.invariant.8 in
-    let other = other-read v m (i * 17) s.requires.1 t.e.given in
+    let other = other_read v m (i * 17) s.requires.1 t.e.given in
     ⊎_elim
     (λ w.
     let zero = zero-read v m (i * 17) s.requires.1 t.e.given w.0.taken in
@@ -62,7 +62,7 @@ loop-again c =
       o.invariant.6,
       d.0,
       d.1,
-      number-listed isBelow v m i o.lowers o.l o.invariant.9 (omega (arith, s.requires.0.few)) low,
+      number_listed isBelow v m i o.lowers o.l o.invariant.9 (omega (arith, s.requires.0.few)) low,
       ups (below-only e low),
     ))
     (λ w.
@@ -80,7 +80,7 @@ loop-again c =
       d.0,
       d.1,
       lows low,
-      number-listed isAbove v m i o.uppers o.u o.invariant.10 (omega (arith, s.requires.0.few)) (above-left e none low),
+      number_listed isAbove v m i o.uppers o.u o.invariant.10 (omega (arith, s.requires.0.few)) (above-left e none low),
     )))
     c.if1.branch
 
@@ -96,8 +96,8 @@ returns c =
     let up = sym (length-take-le o.u o.uppers (omega (arith, s.requires.0.few))) ∙ ap length ups in
     (rw e at o.invariant.7, (rw e at o.invariant.8, (low, (lows, (up, ups)))))
 
-pub split-spec : {M : Type 1} → statement M
-split-spec =
+pub split_spec : {M : Type 1} → statement M
+split_spec =
     tie.close
     (tie.spec invariant-loop decreases-loop
     loop-holds

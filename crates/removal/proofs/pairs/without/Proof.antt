@@ -6,12 +6,12 @@ use borrow.Author.Rules.{rules}
 use lib.ListN.{length, take}
 use Rattle.integers.specs.Lists.{All}
 use Rattle.integers.proofs.Whole.{IsPos}
-use Rattle.rows.specs.Rows.{row-numbers}
-use Rattle.sets.specs.Stores.{set-in}
+use Rattle.rows.specs.Rows.{row_numbers}
+use Rattle.sets.specs.Stores.{set_in}
 use Rattle.removal.specs.Removal.{entry, uppers, lowers}
 use Rattle.removal.specs.Pairs.{row_of, rows_of, SmallAt}
-use Rattle.removal.proofs.Places.{part_room, lowers-numbered, uppers-numbered, lowers-small, uppers-small}
-use Rattle.removal.proofs.Joins.{untouched-ready, left-joined}
+use Rattle.removal.proofs.Places.{part_room, lowers_numbered, uppers_numbered, lowers-small, uppers-small}
+use Rattle.removal.proofs.Joins.{untouched_ready, left-joined}
 use Rattle.removal.proofs.pairs.without.Statement.{statement}
 use Rattle.removal.proofs.pairs.without.Tie as tie
 
@@ -22,13 +22,13 @@ lows c = take c.split.result.lowers c.split.new.1.1.1.1.0
 abbrev ups : tie.After-split → List ℕ
 ups c = take c.split.result.uppers c.split.new.1.1.1.1.1.0
 
-lowers-fit : (c : tie.After-split) → (c.split.result.lowers ≤ length c.split.new.1.1.1.1.0) × All (λ j. SmallAt c.before.before.before.before.args.from.now (j * row-numbers)) (lows c)
+lowers-fit : (c : tie.After-split) → (c.split.result.lowers ≤ length c.split.new.1.1.1.1.0) × All (λ j. SmallAt c.before.before.before.before.args.from.now (j * row_numbers)) (lows c)
 lowers-fit c =
     let s = c.before.before.before.before in
     let e = c.split.ensures.1.1 in
     (part_room c.split.new.1.1.1.1.0 _ _ e.0 e.1.0, rw e.1.0 (lowers-small s.args.v s.args.from.now s.args.n s.requires.0.holds))
 
-uppers-fit : (c : tie.After-split) → (let z = c.before.before.before.before.args in (c.split.result.uppers ≤ length c.split.new.1.1.1.1.1.0) × All (λ i. SmallAt z.from.now (i * row-numbers) × IsPos (entry z.v (row_of z.from.now i))) (ups c))
+uppers-fit : (c : tie.After-split) → (let z = c.before.before.before.before.args in (c.split.result.uppers ≤ length c.split.new.1.1.1.1.1.0) × All (λ i. SmallAt z.from.now (i * row_numbers) × IsPos (entry z.v (row_of z.from.now i))) (ups c))
 uppers-fit c =
     let s = c.before.before.before.before in
     let e = c.split.ensures.1.1.1.1 in
@@ -41,7 +41,7 @@ join-pairs-requires c κs =
     let z = s.args in
     let e = u.split.ensures in
     rw c.with.ensures
-    (untouched-ready z.from.now z.to.now z.n z.v s.requires.0 s.requires.3 _ _ e.0 e.1.0, s.requires.2, (lowers-fit u).0, (lowers-fit u).1, (uppers-fit u).0, (uppers-fit u).1)
+    (untouched_ready z.from.now z.to.now z.n z.v s.requires.0 s.requires.3 _ _ e.0 e.1.0, s.requires.2, (lowers-fit u).0, (lowers-fit u).1, (uppers-fit u).0, (uppers-fit u).1)
 
 returns : tie.Need-returns
 returns c =
@@ -51,12 +51,12 @@ returns c =
     let z = s.args in
     let m = z.from.now in
     let e = u.split.ensures in
-    let low : rows_of m (lows u) ≡ lowers z.v (set-in m z.n) = rw e.1.1.1.0 (lowers-numbered z.v m z.n) in
-    let up : rows_of m (ups u) ≡ uppers z.v (set-in m z.n) = rw e.1.1.1.1.1 (uppers-numbered z.v m z.n) in
+    let low : rows_of m (lows u) ≡ lowers z.v (set_in m z.n) = rw e.1.1.1.0 (lowers_numbered z.v m z.n) in
+    let up : rows_of m (ups u) ≡ uppers z.v (set_in m z.n) = rw e.1.1.1.1.1 (uppers_numbered z.v m z.n) in
     left-joined m z.to.now z.n z.v s.requires.0 s.requires.3 _ _ e.0 e.1.0 _ _ (rw (j.before.with.ensures, low, up) at j.join-pairs.ensures)
 
-pub without-spec : {M : Type 1} → statement M
-without-spec =
+pub without_spec : {M : Type 1} → statement M
+without_spec =
     tie.close
     (tie.spec
     (λ c. search rules)

@@ -6,5 +6,5 @@ use Rattle.rows.proofs.Row.added.Tie as tie
 returns : tie.Need-returns
 returns c = rw (c.either.ensures, c.before.added.ensures)
 
-pub added-spec : {M : Type 1} → statement M
-added-spec = tie.close (tie.spec (λ c κs. search rules) (λ c κs. search rules) returns)
+pub added_spec : {M : Type 1} → statement M
+added_spec = tie.close (tie.spec (λ c κs. search rules) (λ c κs. search rules) returns)

@@ -3,8 +3,8 @@ use mathlib.Core.Path.{◌≡◌}
 use mathlib.Core.List.{[]}
 use borrow.Author.Rules.{rules}
 use lib.ListN.{length}
-use Rattle.rows.specs.Rows.{divided-down}
-use Rattle.rows.proofs.Dividing.{settled-wide}
+use Rattle.rows.specs.Rows.{divided_down}
+use Rattle.rows.proofs.Dividing.{settled_wide}
 use Rattle.rows.proofs.Stores.{row_back}
 use Rattle.rows.proofs.Row.divided_down.Statement.{statement}
 use Rattle.rows.proofs.Row.divided_down.Tie as tie
@@ -16,10 +16,10 @@ returns : tie.Need-returns
 returns c =
     let d = c.before.before.before in
     let r = d.before.before.args.self in
-    rw (d.divided-into.ensures.0, c.read.ensures, d.divided-into.ensures.1, row_back (divided-down r).row [] (settled-wide r (long d.before.before)))
+    rw (d.divided-into.ensures.0, c.read.ensures, d.divided-into.ensures.1, row_back (divided_down r).row [] (settled_wide r (long d.before.before)))
 
-pub divided-down-spec : {M : Type 1} → statement M
-divided-down-spec =
+pub divided_down_spec : {M : Type 1} → statement M
+divided_down_spec =
     tie.close
     (tie.spec
     (λ c. search rules)

@@ -11,19 +11,19 @@ use lib.Signed.{mag, le_z}
 use mir.Syntax.{w32}
 use Rattle.integers.specs.Signs.{is_zero}
 use Rattle.integers.proofs.Bounds.{back, bits-zero, zero_bits}
-use Rattle.integers.proofs.Elements.{i32-field}
+use Rattle.integers.proofs.Elements.{i32_field}
 use Rattle.entries.proofs.Nonzero.{first-zero}
-use Rattle.rows.specs.Rows.{all-zero, divided-down}
-use Rattle.rows.proofs.Lowering.{down-constant}
-use Rattle.rows.proofs.Level.{level-down}
+use Rattle.rows.specs.Rows.{all_zero, divided_down}
+use Rattle.rows.proofs.Lowering.{down_constant}
+use Rattle.rows.proofs.Level.{level_down}
 use Rattle.rows.proofs.Row.divided_into.Statement.{statement}
 use Rattle.rows.proofs.Row.divided_into.Tie as tie
 
 entry : (c : tie.Start) (i : ℕ) → nat_abs (get_or c.args.self.entries i (pos 0)) ≤ 2147483648
-entry c i = search i32-field
+entry c i = search i32_field
 
 -- whether a variable is named, by the first entry that is not 0
-named : (c : tie.After-first-variable) (b : Bool) → is_zero c.first-variable.result ≡ b → all-zero (drop 1 c.before.before.args.self.entries) ≡ b
+named : (c : tie.After-first-variable) (b : Bool) → is_zero c.first-variable.result ≡ b → all_zero (drop 1 c.before.before.args.self.entries) ≡ b
 named c b e = sym (first-zero (drop 1 c.before.before.args.self.entries)) ∙ ap is_zero (sym c.first-variable.ensures) ∙ e
 
 returns : tie.Need-returns
@@ -31,9 +31,9 @@ returns c =
     let k = c.before.before.before in
     let f = k.before.before.before in
     let r = f.before.before.args.self in
-    let q : k.constant.result ≡ divided-down r =
+    let q : k.constant.result ≡ divided_down r =
     rw k.before.widened.ensures at k.constant.ensures
-    ∙ down-constant r.entries r.strict (named f true (bits-zero w32 f.first-variable.result f.first-variable.type-inv k.before.before.if1.true)) in
+    ∙ down_constant r.entries r.strict (named f true (bits-zero w32 f.first-variable.result f.first-variable.type-inv k.before.before.if1.true)) in
     rw q at c.before.give.ensures
 
 -- of any number but the least the sign can be turned
@@ -55,7 +55,7 @@ returns-2 c =
     let r = f.before.before.args.self in
     let x = f.first-variable in
     let some = zero_bits w32 x.result t.before.before.if1.false in
-    let q = level-down r (named f false some) x.result some (sym (rw (back w32 x.result x.type-inv) at t.is-level.ensures) ∙ g.before.if3.true) in
+    let q = level_down r (named f false some) x.result some (sym (rw (back w32 x.result x.type-inv) at t.is_level.ensures) ∙ g.before.if3.true) in
     rw (← q) (refl, rw g.signs.ensures at w.write.ensures)
 
 lowered-requires : tie.Need-lowered-requires
@@ -64,11 +64,11 @@ lowered-requires c κs i = rw c.widened2.ensures (omega (arith, entry c.before.b
 returns-3 : tie.Need-returns-3
 returns-3 c =
     let d = c.before.before.before in
-    let q : d.lowered.result ≡ divided-down d.before.before.before.before.before.before.args.self = rw d.before.widened2.ensures at d.lowered.ensures in
+    let q : d.lowered.result ≡ divided_down d.before.before.before.before.before.before.args.self = rw d.before.widened2.ensures at d.lowered.ensures in
     rw q at c.before.give2.ensures
 
-pub divided-into-spec : {M : Type 1} → statement M
-divided-into-spec =
+pub divided_into_spec : {M : Type 1} → statement M
+divided_into_spec =
     tie.close
     (tie.spec
     (λ c κs. search rules)

@@ -12,12 +12,12 @@ use mir.Syntax.{w32}
 use Rattle.integers.specs.Signs.{is_zero}
 use Rattle.integers.proofs.Bounds.{back, zero_test}
 use Rattle.integers.proofs.Tests.{not-both}
-use Rattle.rows.specs.Rows.{at, has-unit, has_one}
+use Rattle.rows.specs.Rows.{at, has_unit, has_one}
 use Rattle.rows.proofs.Row.has_one.Statement.{statement}
 use Rattle.rows.proofs.Row.has_one.Tie as tie
 
-unit : (c : tie.Then1) → has-unit c.before.before.before.args.self.entries ≡ true
-unit c = sym c.before.has-unit.ensures ∙ c.if1.true
+unit : (c : tie.Then1) → has_unit c.before.before.before.args.self.entries ≡ true
+unit c = sym c.before.has_unit.ensures ∙ c.if1.true
 
 -- the constant is neither 1 nor −1: below −1, above 1, or else 0
 below : (z : ℤ) → lt_z z (negsuc 0) ≡ true → true ≡ not (eqb (nat_abs z) 1)
@@ -58,10 +58,10 @@ returns-3 c =
 
 returns-4 : tie.Need-returns-4
 unfolding has_one
-returns-4 c = rw (sym c.before.has-unit.ensures ∙ c.if1.false)
+returns-4 c = rw (sym c.before.has_unit.ensures ∙ c.if1.false)
 
-pub has-one-spec : {M : Type 1} → statement M
-has-one-spec =
+pub has_one_spec : {M : Type 1} → statement M
+has_one_spec =
     tie.close
     (tie.spec
     (λ c κs. search rules)

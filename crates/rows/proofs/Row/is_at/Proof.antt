@@ -10,7 +10,7 @@ use mir.Syntax.{w32}
 use mir.Val.{of_z}
 use Rattle.integers.proofs.Bounds.{bits-same}
 use Rattle.rows.specs.Rows.{row_at}
-use Rattle.rows.proofs.Ordering.{other-entry, same_entries}
+use Rattle.rows.proofs.Ordering.{other_entry, same_entries}
 use Rattle.rows.proofs.Stores.{get_d_part, part-is, flag-read}
 use Rattle.rows.proofs.Row.is_at.Statement.{statement}
 use Rattle.rows.proofs.Row.is_at.Tie as tie
@@ -26,7 +26,7 @@ returns c =
     let l = c.before.before.before.before in
     let z = l.before.before.args in
     let s = z.s.now in
-    other-entry z.self (row_at s z.at) l.loop.i
+    other_entry z.self (row_at s z.at) l.loop.i
     (λ e. c.if1.true (ap (of_z w32) (e ∙ get_d_part 16 z.at s l.loop.i c.before.before.before.loop-test.true)))
 
 loop-again : tie.Need-loop-preserved invariant-loop decreases-loop
@@ -54,8 +54,8 @@ returns-2 c =
     rw (flag-read (get_or s (z.at + 16) (pos 0)) c.before.strict.given)
     (same_entries z.self (row_at s z.at) (part-is 16 z.at s z.self.entries (long b) (omega arith) (rw e at l.loop.invariant.1)))
 
-pub is-at-spec : {M : Type 1} → statement M
-is-at-spec =
+pub is_at_spec : {M : Type 1} → statement M
+is_at_spec =
     tie.close
     (tie.spec invariant-loop decreases-loop
     (λ c. (search rules, below_none _))

@@ -40,8 +40,8 @@ returns c =
     let e : c.before.before.loop.i ≡ length s.args.self.entries = omega arith in
     rw (c.before.before.loop.invariant.1, e, front-map neg_ℤ (pos 0) s.args.self.entries (replicate 16 (pos 0)) (sym a))
 
-pub negated-spec : {M : Type 1} → statement M
-negated-spec =
+pub negated_spec : {M : Type 1} → statement M
+negated_spec =
     tie.close
     (tie.spec
     invariant-loop

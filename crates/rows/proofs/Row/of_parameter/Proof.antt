@@ -7,5 +7,5 @@ use Rattle.rows.proofs.Row.of_parameter.Tie as tie
 returns : tie.Need-returns
 returns c = rw (c.before.entry.ensures, to_z-of_z c.before.before.ranges.x) at c.single.ensures
 
-pub of-parameter-spec : {M : Type 1} → statement M
-of-parameter-spec = tie.close (tie.spec (λ c κs. search rules) (λ c κs. search rules) returns)
+pub of_parameter_spec : {M : Type 1} → statement M
+of_parameter_spec = tie.close (tie.spec (λ c κs. search rules) (λ c κs. search rules) returns)

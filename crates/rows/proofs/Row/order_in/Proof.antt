@@ -7,21 +7,21 @@ use lib.ListN.{get_or}
 use lib.IntN.{pos}
 use Rattle.rows.specs.declared.Order.{Order}
 use Rattle.rows.specs.declared.Order.TheVariants.{Before, Same, After}
-use Rattle.rows.specs.Rows.{then_by, flag-order, row-order, is_one, row_at}
+use Rattle.rows.specs.Rows.{then_by, flag_order, row_order, is_one, row_at}
 use Rattle.rows.proofs.Stores.{flag-read}
-use Rattle.rows.proofs.Blocks.{then-blocks, row-blocks, other-found, other_none}
+use Rattle.rows.proofs.Blocks.{then_blocks, row-blocks, other_found, other_none}
 use Rattle.rows.proofs.Row.order_in.Statement.{statement}
 use Rattle.rows.proofs.Row.order_in.Tie as tie
 
 abbrev flags : tie.Start → Order
 flags c =
     let z = c.args in
-    flag-order (is_one (get_or z.s.now (z.a + 16) (pos 0))) (is_one (get_or z.t.now (z.b + 16) (pos 0)))
+    flag_order (is_one (get_or z.s.now (z.a + 16) (pos 0))) (is_one (get_or z.t.now (z.b + 16) (pos 0)))
 
 -- the order of the rows by that of the front blocks
 by_front : (c : tie.After-order-of-four) (o : Order) → c.order-of-four.result ≡ o →
     let z = c.before.args in
-    then_by (then-blocks z.s.now z.t.now z.a z.b o) (flags c.before) ≡ row-order (row_at z.s.now z.a) (row_at z.t.now z.b)
+    then_by (then_blocks z.s.now z.t.now z.a z.b o) (flags c.before) ≡ row_order (row_at z.s.now z.a) (row_at z.t.now z.b)
 by_front c o e =
     let z = c.before.args in
     row-blocks z.s.now z.t.now z.a z.b o (omega arith) (omega arith) (sym c.order-of-four.ensures ∙ e)
@@ -31,16 +31,16 @@ order-of-four-requires-2 c κs =
     let d = c.before in
     let s = d.before.before.before.before in
     let z = s.args in
-    let h = other-found z.s.now z.t.now z.a z.b (flags s) (rw d.first-other.ensures at c.if1.true) in
-    rw d.first-other.ensures (omega arith, omega arith)
+    let h = other_found z.s.now z.t.now z.a z.b (flags s) (rw d.first_other.ensures at c.if1.true) in
+    rw d.first_other.ensures (omega arith, omega arith)
 
 returns : tie.Need-returns
 returns c =
     let d = c.before.before in
     let f = d.before.before.before in
     let z = f.before.args in
-    let h = other-found z.s.now z.t.now z.a z.b (flags f.before) (rw d.first-other.ensures at c.before.if1.true) in
-    c.order-of-four2.ensures ∙ (rw d.first-other.ensures h.1) ∙ by_front f Same d.before.enum-told3.given.1
+    let h = other_found z.s.now z.t.now z.a z.b (flags f.before) (rw d.first_other.ensures at c.before.if1.true) in
+    c.order-of-four2.ensures ∙ (rw d.first_other.ensures h.1) ∙ by_front f Same d.before.enum-told3.given.1
 
 returns-2 : tie.Need-returns-2
 returns-2 c = by_front c.before.before Before c.enum_told.given.1
@@ -56,11 +56,11 @@ returns-4 c =
     let f = d.before.before.before in
     let z = f.before.args in
     (rw (flag-read (get_or z.s.now (z.a + 16) (pos 0)) p.order-of-flags-arg.given, flag-read (get_or z.t.now (z.b + 16) (pos 0)) q.order-of-flags-arg2.given) at c.order-of-flags.ensures) ∙
-    other_none z.s.now z.t.now z.a z.b (flags f.before) (rw d.first-other.ensures at p.before.if1.false) ∙
+    other_none z.s.now z.t.now z.a z.b (flags f.before) (rw d.first_other.ensures at p.before.if1.false) ∙
     by_front f Same d.before.enum-told3.given.1
 
-pub order-in-spec : {M : Type 1} → statement M
-order-in-spec =
+pub order_in_spec : {M : Type 1} → statement M
+order_in_spec =
     tie.close
     (tie.spec
     (λ c κs. search rules)

@@ -6,7 +6,7 @@ use lib.ListN.{get_or}
 use lib.IntN.{ℤ, pos, neg_ℤ}
 use mir.Syntax.{w32, w64}
 use mir.Val.{to_z, of_z}
-use Rattle.integers.proofs.Bounds.{back, natAbs-neg}
+use Rattle.integers.proofs.Bounds.{back, natAbs_neg}
 use Rattle.rows.specs.Rows.{at, paired}
 use Rattle.rows.proofs.Lowering.{within-paired}
 use Rattle.rows.proofs.Row.paired.Statement.{statement}
@@ -32,7 +32,7 @@ combined-requires : tie.Need-combined-requires
 combined-requires c κs =
     let d = c.before.before in
     let s = d.before.before.before.before.before.before.before in
-    rw (c.before.widened.ensures, c.widened2.ensures, first d.before.before.before, second d, natAbs-neg)
+    rw (c.before.widened.ensures, c.widened2.ensures, first d.before.before.before, second d, natAbs_neg)
     (s.requires.1, s.requires.2, s.requires.1 s.args.v, s.requires.2 s.args.v)
 
 -- what is divided down is the combination
@@ -49,8 +49,8 @@ lowered-requires c κs =
 returns : tie.Need-returns
 returns c = rw (sum c.before.before, c.before.either.ensures) at c.lowered.ensures
 
-pub paired-spec : {M : Type 1} → statement M
-paired-spec =
+pub paired_spec : {M : Type 1} → statement M
+paired_spec =
     tie.close
     (tie.spec
     (λ c. search rules)

@@ -10,5 +10,5 @@ use Rattle.rows.proofs.Row.single.Tie as tie
 returns : tie.Need-returns
 returns c = rw (to_z-of_z c.ranges.x, with-set c.args.v c.args.x (replicate 16 (pos 0)) c.requires)
 
-pub single-spec : {M : Type 1} → statement M
-single-spec = tie.close (tie.spec (λ c. search rules) (λ c. search rules) returns)
+pub single_spec : {M : Type 1} → statement M
+single_spec = tie.close (tie.spec (λ c. search rules) (λ c. search rules) returns)

@@ -9,9 +9,9 @@ use lib.ListN.{length, get_or, drop}
 use lib.IntN.{ℤ, pos, nat_abs, ◌+ℤ◌, ◌*ℤ◌, +ℤ_assoc, +ℤ_idl, +ℤ_idr}
 use mir.Syntax.{w32, w64}
 use mir.Val.{to_z, of_z}
-use Rattle.integers.proofs.Bounds.{back, natAbs-add, nat_abs_mul}
+use Rattle.integers.proofs.Bounds.{back, natAbs_add, nat_abs_mul}
 use Rattle.rows.specs.Rows.{dot}
-use Rattle.integers.proofs.Loops.{drop-turn, drop-done}
+use Rattle.integers.proofs.Loops.{drop_turn, drop-done}
 use Rattle.rows.proofs.Meaning.{dot-nil}
 use Rattle.rows.proofs.Row.value.Statement.{statement}
 use Rattle.rows.proofs.Row.value.Tie as tie
@@ -27,10 +27,10 @@ decreases-loop at e sum₀ i₀ sum i = 9 - i
 module _ (e at : List ℤ) (i : ℕ) (h : i < length e) (k : i < length at) (s t : ℤ) (is : t ≡ s +ℤ get_or e i (pos 0) *ℤ get_or at i (pos 0)) where
   turn : t +ℤ dot (drop (i + 1) e) (drop (i + 1) at) ≡ s +ℤ dot (drop i e) (drop i at)
   unfolding dot
-  turn = rw (drop-turn e i (pos 0) h, drop-turn at i (pos 0) k, is) (+ℤ_assoc s _ _)
+  turn = rw (drop_turn e i (pos 0) h, drop_turn at i (pos 0) k, is) (+ℤ_assoc s _ _)
 
   grows : nat_abs (get_or e i (pos 0)) * nat_abs (get_or at i (pos 0)) ≤ 1000000000000000 → nat_abs s ≤ i * 1000000000000000 → nat_abs t ≤ (i + 1) * 1000000000000000
-  grows b l = rw is (omega (arith, natAbs-add s (get_or e i (pos 0) *ℤ get_or at i (pos 0)), nat_abs_mul (get_or e i (pos 0)) (get_or at i (pos 0))))
+  grows b l = rw is (omega (arith, natAbs_add s (get_or e i (pos 0) *ℤ get_or at i (pos 0)), nat_abs_mul (get_or e i (pos 0)) (get_or at i (pos 0))))
 
 abbrev entry : tie.At-loop invariant-loop decreases-loop → ℤ
 entry l = get_or l.before.before.args.self.entries l.loop.i (pos 0)

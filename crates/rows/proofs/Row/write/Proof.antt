@@ -9,7 +9,7 @@ use lib.IntN.{ℤ, pos}
 use mir.Syntax.{w32}
 use Rattle.integers.proofs.Bounds.{back}
 use Rattle.rows.specs.Rows.{numbers}
-use Rattle.rows.proofs.Stores.{number_more, number-last}
+use Rattle.rows.proofs.Stores.{number_more, number_last}
 use Rattle.rows.proofs.Row.write.Statement.{statement}
 use Rattle.rows.proofs.Row.write.Tie as tie
 
@@ -44,7 +44,7 @@ returns c =
     let z = s.args in
     let f = c.number-of-flag in
     let e : l.loop.i ≡ 16 = omega arith in
-    number-last z.s.now l.loop.s z.at z.self (long s) s.requires _ (rw e at l.loop.invariant.2) (back w32 f.result f.type-inv ∙ f.ensures)
+    number_last z.s.now l.loop.s z.at z.self (long s) s.requires _ (rw e at l.loop.invariant.2) (back w32 f.result f.type-inv ∙ f.ensures)
 
 pub write_spec : {M : Type 1} → statement M
 write_spec =

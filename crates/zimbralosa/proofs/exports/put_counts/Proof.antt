@@ -27,8 +27,8 @@ returns-2 c = let s = c.before.before.before in record {
   counts = counts-kept s.args.a s.args.counts.now c.before.if1.false;
 }
 
-pub put-counts-spec : {M : Type 1} → statement M
-put-counts-spec =
+pub put_counts_spec : {M : Type 1} → statement M
+put_counts_spec =
     tie.close (tie.spec
     (λ c. search rules)
     slice-write-counts-2

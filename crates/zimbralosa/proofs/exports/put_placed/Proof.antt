@@ -16,8 +16,8 @@ returns-2 c = let s = c.before.before.before in record {
   answer = placed-kept s.args.p s.args.answer.now c.before.if1.false;
 }
 
-pub put-placed-spec : {M : Type 1} → statement M
-put-placed-spec =
+pub put_placed_spec : {M : Type 1} → statement M
+put_placed_spec =
     tie.close (tie.spec
     (λ c κs. search rules)
     (λ c. search rules)

@@ -40,10 +40,10 @@ use denote.Exit.{yes}
 use denote.Signature.{plain, shr_slice_of}
 use Rattle.method.specs.declared.Record.{Record}
 use Rattle.attempts.specs.declared.Answer.{Answer}
-use Rattle.sets.specs.Outcomes.{outcome-number}
-use Rattle.method.specs.Entry.{Run, run-hex}
+use Rattle.sets.specs.Outcomes.{outcome_number}
+use Rattle.method.specs.Entry.{Run, run_hex}
 use Rattle.zimbralosa.specs.Entries.{lent, Ran}
-use Rattle.zimbralosa.specs.Exports.{counts-after, Counted, RegionCounted}
+use Rattle.zimbralosa.specs.Exports.{counts_after, Counted, RegionCounted}
 use Rattle.zimbralosa.proofs.Alloc.{block_of, alloc_all}
 use Rattle.method.specs.contracts.Record as T
 use Rattle.attempts.specs.contracts.Answer as N
@@ -64,8 +64,8 @@ use Rattle.zimbralosa.proofs.exports.zimbralosa_region.Code as code
 -- a run's answer, and its counts
 counted : {R : Run} {c c' : List ℕ} {a b s q : List ℤ} {l : List Record} {t : Answer} {r : ℕ} → Ran R a b s q l t → Counted t c c' r → RegionCounted R c a b s q l c' r
 counted {c = c} h k = record {
-  number = k.number ∙ ap (λ (x : Answer). outcome-number x.outcome) h.answer;
-  counts = k.counts ∙ ap (λ (x : Answer). counts-after x c) h.answer;
+  number = k.number ∙ ap (λ (x : Answer). outcome_number x.outcome) h.answer;
+  counts = k.counts ∙ ap (λ (x : Answer). counts_after x c) h.answer;
   first = h.first;
   second = h.second;
   rows = h.rows;
@@ -175,7 +175,7 @@ module _ {M : Type 1} {𝓤 : Ura M} (𝓛 : Logic 𝓤) (at_mem : Memory → SP
       qed 𝓛 Given-put ∵
       nothing ! $ move ! (1 ∷ 0 ∷ []) $ join ! $ nothing ! $ move ! (2 ∷ 0 ∷ []) $ fjoin ! $ owned ! N.the_row (Is N.the_row) (LL.makes N.the_type N'.the_plain 𝓛) t _ t-is $ fjoin ! $ move ! (1 ∷ 0 ∷ []) $ join ! $ frame ! $ done !
 
-  exits : (r : ℕ) (v : Val) (zs₁ zs₂ zs₃ zs₄ : List ℤ) (zs₅ : List Record) (zs₆ : List ℕ) → RegionCounted (run-hex m input (lent ys₁ ys₂ ys₃ ys₄ ys₅)) ys₆ zs₁ zs₂ zs₃ zs₄ zs₅ zs₆ r → length zs₁ ≡ length ys₁ → length zs₂ ≡ length ys₂ → length zs₃ ≡ length ys₃ → length zs₄ ≡ length ys₄ → length zs₅ ≡ length ys₅ → length zs₆ ≡ length ys₆
+  exits : (r : ℕ) (v : Val) (zs₁ zs₂ zs₃ zs₄ : List ℤ) (zs₅ : List Record) (zs₆ : List ℕ) → RegionCounted (run_hex m input (lent ys₁ ys₂ ys₃ ys₄ ys₅)) ys₆ zs₁ zs₂ zs₃ zs₄ zs₅ zs₆ r → length zs₁ ≡ length ys₁ → length zs₂ ≡ length ys₂ → length zs₃ ≡ length ys₃ → length zs₄ ≡ length ys₄ → length zs₅ ≡ length ys₅ → length zs₆ ≡ length ys₆
       → ent 𝓤 (⋆ 𝓛 (‵ (u8.own_val r (v ∷ [])) ∷ ‵ (finally i32 γ₁ zs₁) ∷ ‵ (finally i32 γ₂ zs₂) ∷ ‵ (finally i32 γ₃ zs₃) ∷ ‵ (finally i32 γ₄ zs₄) ∷ ‵ (finally T.the_row γ₅ zs₅) ∷ ‵ (finally u64 γ₆ zs₆) ∷ ‵ (flft κ₀ q₀) ∷ ‵ (flft κ₁ q₁) ∷ ‵ (flft κ₂ q₂) ∷ ‵ (flft κ₃ q₃) ∷ ‵ (flft κ₄ q₄) ∷ ‵ (flft κ₅ q₅) ∷ ‵ (flft κ₆ q₆) ∷ [])) (Post v)
   exits r v zs₁ zs₂ zs₃ zs₄ zs₅ zs₆ e l₁ l₂ l₃ l₄ l₅ l₆ =
       qed 𝓛 (‵ (u8.own_val r (v ∷ [])) ∷ ‵ (finally i32 γ₁ zs₁) ∷ ‵ (finally i32 γ₂ zs₂) ∷ ‵ (finally i32 γ₃ zs₃) ∷ ‵ (finally i32 γ₄ zs₄) ∷ ‵ (finally T.the_row γ₅ zs₅) ∷ ‵ (finally u64 γ₆ zs₆) ∷ ‵ (flft κ₀ q₀) ∷ ‵ (flft κ₁ q₁) ∷ ‵ (flft κ₂ q₂) ∷ ‵ (flft κ₃ q₃) ∷ ‵ (flft κ₄ q₄) ∷ ‵ (flft κ₅ q₅) ∷ ‵ (flft κ₆ q₆) ∷ []) ∵
@@ -208,8 +208,8 @@ module _ {M : Type 1} {𝓤 : Ura M} (𝓛 : Logic 𝓤) (at_mem : Memory → SP
       move ! (6 ∷ 5 ∷ 4 ∷ 3 ∷ 2 ∷ 1 ∷ 13 ∷ 12 ∷ 11 ∷ 10 ∷ 9 ∷ 8 ∷ []) $ group ! 12 $ use1 𝓛 (raw ((Hex 𝓛 at_mem run).pre to)) goes $
       calls_at ! fm (Hex 𝓛 at_mem run) known to (and_then ! (load ! (from ! (stop !)) (look ! 43 refl)) (and_then ! (load ! (from ! (stop !)) (look ! 23 refl)) (and_then ! (load ! (from ! (stop !)) (look ! 19 refl)) (and_then ! (load ! (from ! (stop !)) (look ! 15 refl)) (and_then ! (load ! (from ! (stop !)) (look ! 11 refl)) (and_then ! (load ! (from ! (stop !)) (look ! 7 refl)) (and_then ! (load ! (from ! (stop !)) (look ! 31 refl)) (no_more !)))))))) (λ v₁.
       use1 𝓛 (later (some (λ (t : Answer). ((‵ (flft κ₀ q₀) ⊛ ‵ (flft κ₁ q₁) ⊛ ‵ (flft κ₂ q₂) ⊛ ‵ (flft κ₃ q₃) ⊛ ‵ (flft κ₄ q₄) ⊛ ‵ (flft κ₅ q₅) ⊛ ‵ ftrue) ⊛ ‵ ((N.the_row).own_val t (v₁ ∷ []))) ⊛ raw (ensured 𝓛 callee.ended (callee.clauses 𝓛 at_mem run) (κ₀, (κ₁, (κ₂, (κ₃, (κ₄, (κ₅, tt)))))) passed tt t)))) (id⊢ 𝓤 _) $ await ! tt $ pick ! (λ t.
-      split ! $ move ! (1 ∷ []) $ use1 𝓛 (some (λ (ws : Unit {0} × (List ℤ × (List ℤ × (List ℤ × (List ℤ × (List Record × (Unit {0} × (Unit {0})))))))). ‵ (lasts callee.ended (κ₀, (κ₁, (κ₂, (κ₃, (κ₄, (κ₅, tt)))))) passed ws) ⊛ raw (fact 𝓤 (Ran (run-hex m input (lent ys₁ ys₂ ys₃ ys₄ ys₅)) ws.1.0 ws.1.1.0 ws.1.1.1.0 ws.1.1.1.1.0 ws.1.1.1.1.1.0 t)))) (id⊢ 𝓤 _) $ pick ! (λ ws.
-      split ! $ move ! (1 ∷ []) $ heard ! (Ran (run-hex m input (lent ys₁ ys₂ ys₃ ys₄ ys₅)) ws.1.0 ws.1.1.0 ws.1.1.1.0 ws.1.1.1.1.0 ws.1.1.1.1.1.0 t) (λ e₁.
+      split ! $ move ! (1 ∷ []) $ use1 𝓛 (some (λ (ws : Unit {0} × (List ℤ × (List ℤ × (List ℤ × (List ℤ × (List Record × (Unit {0} × (Unit {0})))))))). ‵ (lasts callee.ended (κ₀, (κ₁, (κ₂, (κ₃, (κ₄, (κ₅, tt)))))) passed ws) ⊛ raw (fact 𝓤 (Ran (run_hex m input (lent ys₁ ys₂ ys₃ ys₄ ys₅)) ws.1.0 ws.1.1.0 ws.1.1.1.0 ws.1.1.1.1.0 ws.1.1.1.1.1.0 t)))) (id⊢ 𝓤 _) $ pick ! (λ ws.
+      split ! $ move ! (1 ∷ []) $ heard ! (Ran (run_hex m input (lent ys₁ ys₂ ys₃ ys₄ ys₅)) ws.1.0 ws.1.1.0 ws.1.1.1.0 ws.1.1.1.1.0 ws.1.1.1.1.1.0 t) (λ e₁.
       fsplit ! $ move ! (1 ∷ []) $ fsplit ! $ fsplit ! $ move ! (1 ∷ []) $ feq_l ! (λ len₁.
       move ! (1 ∷ []) $ fsplit ! $ fsplit ! $ move ! (1 ∷ []) $ feq_l ! (λ len₂.
       move ! (1 ∷ []) $ fsplit ! $ fsplit ! $ move ! (1 ∷ []) $ feq_l ! (λ len₃.
@@ -250,9 +250,9 @@ zimbralosa-region-meets {𝓤 = 𝓤} 𝓛 at_mem run 𝓣 known known-put =
     walk_Meets 𝓛 f.ended stayed (Goes-dropped 𝓛 7 (shr_slice_of (0 ∷ []) tt (plain (λ _. u8))) yes (λ κs x f. refl), (Goes-gave_slice 𝓛 7 1 tt (plain (λ _. i32)), (Goes-gave_slice 𝓛 7 2 tt (plain (λ _. i32)), (Goes-gave_slice 𝓛 7 3 tt (plain (λ _. i32)), (Goes-gave_slice 𝓛 7 4 tt (plain (λ _. i32)), (Goes-gave_slice 𝓛 7 5 tt (plain (λ _. T.the_row)), (Goes-none 𝓛 7 (λ _. usize) yes (λ κs x f. refl), (Goes-gave_slice 𝓛 7 6 tt (plain (λ _. u64)), tt)))))))) (f.clauses 𝓛 at_mem run)
     (WpFn 𝓤 𝓛.H 𝓣.C 𝓣.Λ code.function) (WpFn-mono 𝓤 𝓛.H 𝓛.laws 𝓣 code.function) (zimbralosa-region-walks 𝓛 at_mem run 𝓣 (fm_of 𝓤 𝓛.H 𝓛.laws 𝓣) known known-put)
 
-pub zimbralosa-region-spec : {M : Type 1} → stated.statement M
+pub zimbralosa_region_spec : {M : Type 1} → stated.statement M
 unfolding code.routine tables_of
-zimbralosa-region-spec 𝓤 𝓛 𝓜 𝓡 =
+zimbralosa_region_spec 𝓤 𝓛 𝓜 𝓡 =
     entered 𝓤 𝓛.H (triple_of 𝓛 f.signature (f.spec 𝓛 𝓜.mem 𝓡.run))
     (tables 𝓤 𝓛.H 𝓜 𝓡 code.env).C (tables 𝓤 𝓛.H 𝓜 𝓡 code.env).Λ #zimbralosa·exports·zimbralosa-region code.function (code.unfolded 𝓤 𝓛.H 𝓜 𝓡)
     (zimbralosa-region-meets 𝓛 𝓜.mem 𝓡.run (tables_of 𝓤 𝓛.H 𝓜 (tables 𝓤 𝓛.H 𝓜 𝓡 code.env))

@@ -1,9 +1,9 @@
 -- `zimbralosa::exports::zimbralosa_remove` meets its contract. Assumes nothing.
 use mathlib.Core.Path.{ap, ◌∙◌}
 use borrow.Author.Rules.{rules}
-use Rattle.sets.specs.Outcomes.{outcome-number}
+use Rattle.sets.specs.Outcomes.{outcome_number}
 use Rattle.removal.specs.declared.Placed.{Placed}
-use Rattle.zimbralosa.specs.Exports.{placed-after}
+use Rattle.zimbralosa.specs.Exports.{placed_after}
 use Rattle.zimbralosa.proofs.exports.zimbralosa_remove.Statement.{statement}
 use Rattle.zimbralosa.proofs.exports.zimbralosa_remove.Tie as tie
 
@@ -13,14 +13,14 @@ returns c =
     let h = c.before.before.before.before.before.before.remove-between.ensures in
     let k = c.before.before.put-placed.ensures in
     record {
-      number = k.number ∙ ap (λ (p : Placed). outcome-number p.outcome) h.answer;
-      answer = k.answer ∙ ap (λ (p : Placed). placed-after p s.args.answer.now) h.answer;
+      number = k.number ∙ ap (λ (p : Placed). outcome_number p.outcome) h.answer;
+      answer = k.answer ∙ ap (λ (p : Placed). placed_after p s.args.answer.now) h.answer;
       first = h.first;
       second = h.second;
     }
 
-pub zimbralosa-remove-spec : {M : Type 1} → statement M
-zimbralosa-remove-spec =
+pub zimbralosa_remove_spec : {M : Type 1} → statement M
+zimbralosa_remove_spec =
     tie.close (tie.spec
     (λ c κs. search rules)
     (λ c κs. search rules)
