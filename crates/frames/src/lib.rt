@@ -19,14 +19,14 @@ mod regions;
 mod steps;
 
 // A line: how many bytes it has, and whether it is one of digits that ends in LF.
-#[derive(Drop)]
+#[derive(Clone, Copy)]
 pub struct Line {
     pub count: usize,
     pub good: bool,
 }
 
 // What has been read, counted; the transitions and the rows themselves stand in their tables.
-#[derive(Drop)]
+#[derive(Clone, Copy)]
 pub struct Progress {
     pub header: Header,
     pub reference: Reference,
@@ -37,7 +37,7 @@ pub struct Progress {
 }
 
 // What is taken from a frame: of these four the one of its kind.
-#[derive(Drop)]
+#[derive(Clone, Copy)]
 pub struct Frame {
     pub header: Header,
     pub reference: Reference,
@@ -48,14 +48,14 @@ pub struct Frame {
 }
 
 // How many characters were written, and whether there was room for them.
-#[derive(Drop)]
+#[derive(Clone, Copy)]
 pub struct Written {
     pub count: usize,
     pub fits: bool,
 }
 
 // A model, or why there is none: then the tables are all zeros.
-#[derive(Drop)]
+#[derive(Clone, Copy)]
 pub struct Reading {
     pub model: Model,
     pub outcome: Outcome,

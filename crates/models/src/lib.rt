@@ -14,7 +14,7 @@ use rows::Row;
 use sets::{Outcome, Refusal};
 
 // How many clocks, parameters, locations and transitions there are.
-#[derive(Drop)]
+#[derive(Clone, Copy)]
 pub struct Header {
     pub clocks: u8,
     pub parameters: u8,
@@ -23,14 +23,14 @@ pub struct Header {
 }
 
 // One denominator, and a numerator for each parameter; those beyond the declared ones are not looked at.
-#[derive(Drop)]
+#[derive(Clone, Copy)]
 pub struct Reference {
     pub denominator: i32,
     pub numerators: [i32; 8],
 }
 
 // Bit 0 of the resets is clock 1.
-#[derive(Drop)]
+#[derive(Clone, Copy)]
 pub struct Transition {
     pub source: u8,
     pub action: u8,
@@ -39,7 +39,7 @@ pub struct Transition {
 }
 
 // A row of the initial constraint (kind 0), of a location's invariant (1) or of a transition's guard (2).
-#[derive(Drop)]
+#[derive(Clone, Copy)]
 pub struct ModelRow {
     pub kind: u8,
     pub owner: u8,
@@ -48,7 +48,7 @@ pub struct ModelRow {
 }
 
 // The rows beyond `count` are not looked at; a count above 128 is refused.
-#[derive(Drop)]
+#[derive(Clone, Copy)]
 pub struct Model {
     pub header: Header,
     pub reference: Reference,

@@ -16,7 +16,7 @@ use sets::{Joined, Outcome, Refusal};
 mod pairs;
 
 // Where a set stands: in the first or the second of two stores, with so many rows; or why there is none.
-#[derive(Drop)]
+#[derive(Clone, Copy)]
 pub struct Placed {
     pub rows: usize,
     pub second: bool,

@@ -14,7 +14,7 @@ use rows::{Row, Set, Settled};
 use sets::{Joined, Refusal};
 
 // How many rows do not name the variable, stand below zero in it, and above.
-#[derive(Drop)]
+#[derive(Clone, Copy)]
 struct Parts {
     untouched: usize,
     lowers: usize,

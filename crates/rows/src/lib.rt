@@ -4,26 +4,26 @@ ghost use Rattle.integers.specs.Limits.{given_limit};
 ghost use Rattle.rows.specs.Rows.{entry_count, row_numbers, set_rows, set_numbers, parameter_entry, clock_entry, empty_row, single, false_row, dot, under, holds_at, Within, Small, negated, constant, divided_down, paired, added, has_one, is_same, flag_order, row_order, same_row, flag, row_at, with_row};
 ghost use Rattle.rows.specs.Blocks.{four_order, first_other};
 
-#[derive(Drop)]
+#[derive(Clone, Copy)]
 pub struct Row {
     pub entries: [i32; 16],
     pub strict: bool,
 }
 
 // A set of rows stands in a lent store, in order from its front; by value there is the number of its rows.
-#[derive(Drop)]
+#[derive(Clone, Copy)]
 pub struct Set {
     pub rows: usize,
 }
 
 // Clocks count from 1 to 6, parameters from 1 to 8. Neither is an entry number: it becomes one where a row is built.
-#[derive(Drop)]
+#[derive(Clone, Copy)]
 pub struct Clock(pub u8);
 
-#[derive(Drop)]
+#[derive(Clone, Copy)]
 pub struct Parameter(pub u8);
 
-#[derive(Drop)]
+#[derive(Clone, Copy)]
 pub enum Fate {
     Kept,
     Gone,
@@ -31,13 +31,13 @@ pub enum Fate {
 }
 
 // A row divided down, and whether it stays. The row stands first: behind an enum it would lie at an odd place.
-#[derive(Drop)]
+#[derive(Clone, Copy)]
 pub struct Settled {
     pub row: Row,
     pub fate: Fate,
 }
 
-#[derive(Drop)]
+#[derive(Clone, Copy)]
 pub enum Order {
     Before,
     Same,

@@ -3,7 +3,7 @@
 use attempts::Answer;
 
 // What stands behind a case's input: the lengths of the stores and the roll, the budget and the filler.
-#[derive(Drop)]
+#[derive(Clone, Copy)]
 struct Lent {
     first: usize,
     second: usize,

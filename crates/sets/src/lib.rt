@@ -11,7 +11,7 @@ ghost use Rattle.sets.specs.Stores.{zeroed, rows_at, set_in, Stands, HoldsSet, c
 use rows::{Fate, Order, Row, Set, Settled};
 
 // The refusals 1 to 13, in the order of their numbers.
-#[derive(Drop)]
+#[derive(Clone, Copy)]
 pub enum Refusal {
     NoFrame,
     Misplaced,
@@ -28,21 +28,21 @@ pub enum Refusal {
     ShortStore,
 }
 
-#[derive(Drop)]
+#[derive(Clone, Copy)]
 pub enum Outcome {
     Found,
     Refused(Refusal),
 }
 
 // What a step on a set leaves: how many rows it then has, or why it was refused (and no rows).
-#[derive(Drop)]
+#[derive(Clone, Copy)]
 pub struct Joined {
     pub rows: usize,
     pub outcome: Outcome,
 }
 
 // Where a row belongs in a set: it stands there, or behind so many rows.
-#[derive(Drop)]
+#[derive(Clone, Copy)]
 pub enum Place {
     Standing,
     At(usize),
