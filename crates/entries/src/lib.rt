@@ -1,4 +1,6 @@
 // The sixteen entries of a row, in 32 or 64 bits, one loop a function. Each is an inner step of the rows above.
+#![tactic(auto)]
+
 ghost use Rattle.std.specs.Prelude.{◌≡◌, map, ◌≤◌, ◌<◌, ◌^◌, drop, pos, nat_abs};
 ghost use Rattle.std.specs.Int.Signed.{quot_z};
 ghost use Rattle.integers.specs.Limits.{entry_limit};

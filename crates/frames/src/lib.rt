@@ -1,4 +1,6 @@
 // The hex exchange: a model read from its frames, and the answer written.
+#![tactic(auto)]
+
 ghost use Rattle.std.specs.Prelude.{◌≡◌, [], length, ◌*◌, ◌≤◌};
 ghost use Rattle.rows.specs.Rows.{row_numbers, set_rows};
 ghost use Rattle.sets.specs.Outcomes.{refused};

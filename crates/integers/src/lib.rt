@@ -1,5 +1,7 @@
 // Signed numbers as the layers above use them: widened and narrowed, turned, their magnitude and sign, their greatest common divisor
 // and exact quotient, and the two sums of products that rows need. Each is an inner step: a `requires` is met by the rows above.
+#![tactic(auto)]
+
 ghost use Rattle.std.specs.Prelude.{◌≡◌, ℕ, ◌+◌, ◌*◌, ◌≤◌, ◌<◌, ◌^◌, ℤ, pos, neg_ℤ, nat_abs, ◌+ℤ◌, ◌*ℤ◌};
 ghost use Rattle.std.specs.Int.Signed.{quot_z};
 ghost use Rattle.integers.specs.Gcd.{gcd};

@@ -1,4 +1,6 @@
 // A model's tables by value: what a tester hands in.
+#![tactic(auto)]
+
 ghost use Rattle.std.specs.Prelude.{◌≡◌, cond, not, ◌&&◌, ◌||◌, [], ◌∷◌, map, ◌^◌, ◌≤◌, leb, ltb, pos, nat_abs};
 ghost use Rattle.std.specs.Int.Signed.{le_z};
 ghost use Rattle.integers.specs.Limits.{given_limit};

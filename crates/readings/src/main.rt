@@ -1,5 +1,7 @@
 // Reads models, case by case from standard input, and prints whether each is accepted, and the tables of those that are.
 // docs/VECTORS.md has the format of a case, and says where the cases and the expected output come from.
+#![tactic(auto)]
+
 ghost use Rattle.std.specs.Prelude.{ℕ, ◌≤◌, ◌<◌};
 
 use models::{Model, ModelRow, Transition};

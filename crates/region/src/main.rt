@@ -1,4 +1,6 @@
 // Reads a model from standard input and prints its answer and region: 900 rows, 256 records and a budget of 100,000 are lent.
+#![tactic(auto)]
+
 use attempts::Answer;
 
 fn main() {

@@ -1,4 +1,6 @@
 // Removal of variables between two lent stores: one variable from store to store, several alternating, and the removal called alone.
+#![tactic(auto)]
+
 ghost use Rattle.std.specs.Prelude.{◌≡◌, List, [], ℕ, ◌+◌, ◌*◌, ◌≤◌, ◌<◌, length};
 ghost use mathlib.Core.Bool.{not};
 ghost use Rattle.integers.specs.Lists.{every};

@@ -1,5 +1,7 @@
 // Runs removals called alone, case by case from standard input, and prints every answer and every number of both stores.
 // docs/VECTORS.md has the format of a case, and says where the cases and the expected output come from.
+#![tactic(auto)]
+
 ghost use Rattle.std.specs.Prelude.{ℕ, ◌≤◌, ◌<◌};
 
 use removal::Placed;

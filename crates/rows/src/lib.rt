@@ -1,4 +1,6 @@
 // Rows: 16 signed entries and a strict flag, by value; what is done with them, and how they stand in a lent store.
+#![tactic(auto)]
+
 ghost use Rattle.std.specs.Prelude.{◌≡◌, ◌||◌, ◌+◌, ◌≤◌, ◌<◌, ◌^◌, leb, length};
 ghost use Rattle.integers.specs.Limits.{given_limit};
 ghost use Rattle.rows.specs.Rows.{entry_count, row_numbers, set_rows, set_numbers, parameter_entry, clock_entry, empty_row, single, false_row, dot, under, holds_at, Within, Small, negated, constant, divided_down, paired, added, has_one, is_same, flag_order, row_order, same_row, flag, row_at, with_row};

@@ -1,5 +1,7 @@
 // Runs whole methods, case by case from standard input, and prints every answer and every number of the lent stores.
 // docs/VECTORS.md has the format of a case, and says where the cases and the expected output come from.
+#![tactic(auto)]
+
 use attempts::Answer;
 
 // What stands behind a case's input: the lengths of the stores and the roll, the budget and the filler.

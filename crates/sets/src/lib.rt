@@ -1,5 +1,7 @@
 // Ordered sets of rows in lent stores of signed 32-bit numbers: 17 numbers a row, from the front. What a step may be refused for.
 // Every function is an inner step: the entries above lend stores that take any set, and keep sets in order.
+#![tactic(auto)]
+
 ghost use Rattle.std.specs.Prelude.{◌≡◌, ◌++◌, ◌+◌, ◌-◌, ◌*◌, ◌≤◌, ◌<◌, length, take, drop, nat_abs};
 ghost use Rattle.rows.specs.declared.Fate.TheVariants.{Kept};
 ghost use Rattle.rows.specs.Rows.{entry_count, row_numbers, set_rows, single, divided_down, row_at};

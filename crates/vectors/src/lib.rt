@@ -1,4 +1,6 @@
 // What the programs that run stored cases share: numbers from bytes, and numbers printed as runs. Nothing is promised but safety.
+#![tactic(auto)]
+
 ghost use Rattle.std.specs.Prelude.{ℕ, ◌≤◌, ◌<◌};
 
 pub fn size(b: u8) -> usize

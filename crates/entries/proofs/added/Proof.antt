@@ -14,30 +14,30 @@ use Rattle.entries.proofs.Fits.{front-added}
 use Rattle.entries.proofs.added.Statement.{statement}
 use Rattle.entries.proofs.added.Tie as tie
 
-abbrev invariant-loop : tie.invariant-loop
+abbrev invariant-loop : tie.invariant-loop-i
 invariant-loop x y to₀ i₀ to i = (i ≤ 16) × (to ≡ front (λ k. get_or x k (pos 0) +ℤ get_or y k (pos 0)) i (replicate 16 (pos 0)))
 
-abbrev decreases-loop : tie.decreases-loop
+abbrev decreases-loop : tie.decreases-loop-i
 decreases-loop x y to₀ i₀ to i = 16 - i
 
 sum : (s : tie.Start invariant-loop decreases-loop) (i : ℕ) → SFits w32 (get_or s.args.t1 i (pos 0) +ℤ get_or s.args.t2 i (pos 0))
 sum s i = let x = s.requires.0 i in let y = s.requires.1 i in fits_abs _ (omega (arith, natAbs_add (get_or s.args.t1 i (pos 0)) (get_or s.args.t2 i (pos 0))))
 
-add-to : tie.Need-overflow-add-to invariant-loop decreases-loop
+add-to : tie.Need-overflow_add-to invariant-loop decreases-loop
 add-to c =
     let l = c.before.before.before in
-    let x = get_or l.before.args.t1 l.loop.i (pos 0) in
-    let y = get_or l.before.args.t2 l.loop.i (pos 0) in
-    rw (back w32 x c.before.to.given, back w32 y c.to2.given) (sum l.before l.loop.i)
+    let x = get_or l.before.args.t1 l.loop-i.i (pos 0) in
+    let y = get_or l.before.args.t2 l.loop-i.i (pos 0) in
+    rw (back w32 x c.before.to-1.given, back w32 y c.to-in-loop-i-1.given) (sum l.before l.loop-i.i)
 
-loop-again : tie.Need-loop-preserved invariant-loop decreases-loop
+loop-again : tie.Need-loop-i-preserved invariant-loop decreases-loop
 loop-again c =
     let l = c.before.before.before in
-    let x = get_or l.before.args.t1 l.loop.i (pos 0) in
-    let y = get_or l.before.args.t2 l.loop.i (pos 0) in (
+    let x = get_or l.before.args.t1 l.loop-i.i (pos 0) in
+    let y = get_or l.before.args.t2 l.loop-i.i (pos 0) in (
       search rules,
-      front-more _ _ _ _ _ l.loop.invariant.1
-          (rw (back w32 x c.before.to.given, back w32 y c.to2.given) (to_z-of_z (sum l.before l.loop.i))),
+      front-more _ _ _ _ _ l.loop-i.invariant.1
+          (rw (back w32 x c.before.to-1.given, back w32 y c.to-in-loop-i-1.given) (to_z-of_z (sum l.before l.loop-i.i))),
     )
 
 returns : tie.Need-returns invariant-loop decreases-loop
@@ -47,8 +47,8 @@ returns c =
     let y = s.args.t2 in
     let a : length x ≡ 16 = search rules in
     let b : length y ≡ 16 = search rules in
-    let e : c.before.loop.i ≡ length x = omega arith in
-    rw (c.before.loop.invariant.1, e) (front-added x y (replicate 16 (pos 0)) (sym a) (a ∙ sym b))
+    let e : c.before.loop-i.i ≡ length x = omega arith in
+    rw (c.before.loop-i.invariant.1, e) (front-added x y (replicate 16 (pos 0)) (sym a) (a ∙ sym b))
 
 pub added_spec : {M : Type 1} → statement M
 added_spec =

@@ -15,10 +15,10 @@ use Rattle.entries.specs.Entries.{at, first_nonzero}
 use Rattle.entries.proofs.first_variable.Statement.{statement}
 use Rattle.entries.proofs.first_variable.Tie as tie
 
-abbrev invariant-loop : tie.invariant-loop
+abbrev invariant-loop : tie.invariant-loop-i
 invariant-loop l i₀ i = (i ≤ 16) × (first_nonzero (drop i l) ≡ first_nonzero (drop 1 l))
 
-abbrev decreases-loop : tie.decreases-loop
+abbrev decreases-loop : tie.decreases-loop-i
 decreases-loop l i₀ i = 16 - i
 
 module _ (l : List ℤ) (i : ℕ) where
@@ -37,25 +37,25 @@ module _ (l : List ℤ) (i : ℕ) where
 long : (c : tie.Start invariant-loop decreases-loop) → length c.args.t1 ≡ 16
 long c = search rules
 
-returns : tie.Need-returns invariant-loop decreases-loop
+returns : tie.Need-returns-then-l-i-ne0 invariant-loop decreases-loop
 returns c =
     let s = c.before.before.before.before in
     let l = s.before.args.t1 in
-    let z = get_or l s.loop.i (pos 0) in
-    back w32 z c.result.given ∙ stops l s.loop.i (omega (arith, long s.before)) (zero_bits w32 z c.before.if1.true) ∙ s.loop.invariant.1
+    let z = get_or l s.loop-i.i (pos 0) in
+    back w32 z c.result-1.given ∙ stops l s.loop-i.i (omega (arith, long s.before)) (zero_bits w32 z c.before.if-l-i-ne0.true) ∙ s.loop-i.invariant.1
 
-loop-again : tie.Need-loop-preserved invariant-loop decreases-loop
+loop-again : tie.Need-loop-i-preserved invariant-loop decreases-loop
 loop-again c =
     let s = c.before.before.before in
     let l = s.before.args.t1 in (
       search rules,
-      turn l s.loop.i (omega (arith, long s.before)) (bits-zero w32 (get_or l s.loop.i (pos 0)) c.before.if12.given c.if1.false) ∙ s.loop.invariant.1,
+      turn l s.loop-i.i (omega (arith, long s.before)) (bits-zero w32 (get_or l s.loop-i.i (pos 0)) c.before.t8-1.given c.if-l-i-ne0.false) ∙ s.loop-i.invariant.1,
     )
 
-returns-2 : tie.Need-returns-2 invariant-loop decreases-loop
+returns-2 : tie.Need-returns invariant-loop decreases-loop
 returns-2 c =
     let s = c.before in
-    done s.before.args.t1 s.loop.i (omega (arith, long s.before)) ∙ s.loop.invariant.1
+    done s.before.args.t1 s.loop-i.i (omega (arith, long s.before)) ∙ s.loop-i.invariant.1
 
 pub first_variable_spec : {M : Type 1} → statement M
 first_variable_spec =

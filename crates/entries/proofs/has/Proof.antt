@@ -20,10 +20,10 @@ use Rattle.entries.specs.Entries.{at, same, has}
 use Rattle.entries.proofs.has.Statement.{statement}
 use Rattle.entries.proofs.has.Tie as tie
 
-abbrev invariant-loop : tie.invariant-loop
+abbrev invariant-loop : tie.invariant-loop-i
 invariant-loop x l found₀ i₀ found i = (i ≤ 16) × ((found || has (to_z w32 x) (drop i l)) ≡ has (to_z w32 x) l)
 
-abbrev decreases-loop : tie.decreases-loop
+abbrev decreases-loop : tie.decreases-loop-i
 decreases-loop x l found₀ i₀ found i = 16 - i
 
 -- the machine compares the bits: that tells whether the numbers are the same
@@ -56,21 +56,21 @@ module _ (x : ℤ) (l : List ℤ) (i : ℕ) (found : Bool) where
 long : (c : tie.Start invariant-loop decreases-loop) → length c.args.t1 ≡ 16
 long c = search rules
 
-loop-again : tie.Need-loop-preserved invariant-loop decreases-loop
+loop-again : tie.Need-loop-i-preserved invariant-loop decreases-loop
 loop-again c =
     let s = c.before.before in
     let l = s.before.args.t1 in
     let x = s.before.args.x in (
       search rules,
-      rw (to_z-of_z s.before.ranges.x) (turn x l s.loop.i s.loop.found _ (omega (arith, long s.before)) (tested (get_or l s.loop.i (pos 0)) x c.found.given s.before.ranges.x.sfits))
-          ∙ s.loop.invariant.1,
+      rw (to_z-of_z s.before.ranges.x) (turn x l s.loop-i.i s.loop-i.found-1 _ (omega (arith, long s.before)) (tested (get_or l s.loop-i.i (pos 0)) x c.found-1.given s.before.ranges.x.sfits))
+          ∙ s.loop-i.invariant.1,
     )
 
 returns : tie.Need-returns invariant-loop decreases-loop
 returns c =
     let s = c.before in
     rw (to_z-of_z s.before.ranges.x) at
-    (done (to_z w32 (of_z w32 s.before.args.x)) s.before.args.t1 s.loop.i s.loop.found (omega (arith, long s.before)) ∙ s.loop.invariant.1)
+    (done (to_z w32 (of_z w32 s.before.args.x)) s.before.args.t1 s.loop-i.i s.loop-i.found-1 (omega (arith, long s.before)) ∙ s.loop-i.invariant.1)
 
 pub has_spec : {M : Type 1} → statement M
 has_spec =

@@ -26,7 +26,7 @@ either [] = refl
 either (z ∷ l) = or-mixed (same z (pos 1)) (has (pos 1) l) (same z (negsuc 0)) (has (negsuc 0) l) ∙ rw (one z, either l)
 
 returns : tie.Need-returns
-returns c = rw (c.before.has.ensures, c.has2.ensures) (either c.before.before.args.l)
+returns c = rw (c.before.has.ensures, c.has-2.ensures) (either c.before.before.args.l)
 
 pub has_unit_spec : {M : Type 1} → statement M
 has_unit_spec = tie.close (tie.spec (λ c κs. search rules) (λ c κs. search rules) returns)

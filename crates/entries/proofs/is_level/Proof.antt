@@ -21,10 +21,10 @@ use Rattle.entries.proofs.is_level.Tie as tie
 abbrev level : ℤ → ℤ → Bool
 level x z = is_zero z || eqb (nat_abs z) (nat_abs x)
 
-abbrev invariant-loop : tie.invariant-loop
+abbrev invariant-loop : tie.invariant-loop-i
 invariant-loop x l y other₀ i₀ other i = (i ≤ 16) × ((not other && every (level (to_z w32 x)) (drop i l)) ≡ every (level (to_z w32 x)) l)
 
-abbrev decreases-loop : tie.decreases-loop
+abbrev decreases-loop : tie.decreases-loop-i
 decreases-loop x l y other₀ i₀ other i = 16 - i
 
 -- an entry fails where it is none of the three
@@ -37,19 +37,19 @@ three false false false = refl
 long : (c : tie.Start invariant-loop decreases-loop) → length c.args.t1 ≡ 16
 long c = search rules
 
-sub-y : tie.Need-overflow-sub-y invariant-loop decreases-loop
+sub-y : tie.Need-overflow_sub-y invariant-loop decreases-loop
 sub-y c = let x = c.args.x in rw (to_z-of_z c.ranges.x, +ℤ_idl (neg_ℤ x)) (fits_abs (neg_ℤ x) (rw (natAbs_neg x) c.requires))
 
-loop-again : tie.Need-loop-preserved invariant-loop decreases-loop
+loop-again : tie.Need-loop-i-preserved invariant-loop decreases-loop
 loop-again c =
     let s = c.before.before in
     let l = s.before.args.t1 in
     let x = s.before.args.x in
-    let z = get_or l s.loop.i (pos 0) in
-    let tested = ap₂ {C = Bool} (λ a b. a || b) (sym (zero_test w32 z c.z.given)) (sym (either-sign w32 z x c.z.given s.before.requires)) ∙ three (eqb (of_z w32 z) 0) (eqb (of_z w32 z) (of_z w32 x)) (eqb (of_z w32 z) (of_z w32 (neg_ℤ x))) in (
+    let z = get_or l s.loop-i.i (pos 0) in
+    let tested = ap₂ {C = Bool} (λ a b. a || b) (sym (zero_test w32 z c.z-1.given)) (sym (either-sign w32 z x c.z-1.given s.before.requires)) ∙ three (eqb (of_z w32 z) 0) (eqb (of_z w32 z) (of_z w32 x)) (eqb (of_z w32 z) (of_z w32 (neg_ℤ x))) in (
       search rules,
-      rw (to_z-of_z s.before.ranges.x, +ℤ_idl (neg_ℤ x)) (flag_turn (level x) l s.loop.i (pos 0) s.loop.other _ (omega (arith, long s.before)) tested)
-          ∙ s.loop.invariant.1,
+      rw (to_z-of_z s.before.ranges.x, +ℤ_idl (neg_ℤ x)) (flag_turn (level x) l s.loop-i.i (pos 0) s.loop-i.other _ (omega (arith, long s.before)) tested)
+          ∙ s.loop-i.invariant.1,
     )
 
 returns : tie.Need-returns invariant-loop decreases-loop
@@ -57,7 +57,7 @@ unfolding is_level
 returns c =
     let s = c.before in
     rw (to_z-of_z s.before.ranges.x) at
-    (flag-done (level (to_z w32 (of_z w32 s.before.args.x))) s.before.args.t1 s.loop.i (pos 0) s.loop.other (omega (arith, long s.before)) ∙ s.loop.invariant.1)
+    (flag-done (level (to_z w32 (of_z w32 s.before.args.x))) s.before.args.t1 s.loop-i.i (pos 0) s.loop-i.other (omega (arith, long s.before)) ∙ s.loop-i.invariant.1)
 
 pub is_level_spec : {M : Type 1} → statement M
 is_level_spec =

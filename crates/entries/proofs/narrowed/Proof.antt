@@ -11,26 +11,26 @@ use Rattle.integers.proofs.Loops.{front, front-none, front-more, front_same}
 use Rattle.entries.proofs.narrowed.Statement.{statement}
 use Rattle.entries.proofs.narrowed.Tie as tie
 
-abbrev invariant-loop : tie.invariant-loop
+abbrev invariant-loop : tie.invariant-loop-i
 invariant-loop l to₀ i₀ to i = (i ≤ 16) × (to ≡ front (λ k. get_or l k (pos 0)) i (replicate 16 (pos 0)))
 
-abbrev decreases-loop : tie.decreases-loop
+abbrev decreases-loop : tie.decreases-loop-i
 decreases-loop l to₀ i₀ to i = 16 - i
 
-loop-again : tie.Need-loop-preserved invariant-loop decreases-loop
+loop-again : tie.Need-loop-i-preserved invariant-loop decreases-loop
 loop-again c =
     let h = c.narrow in (
       search rules,
-      front-more _ _ _ _ _ c.before.before.before.loop.invariant.1
-          (back w32 h.result h.type-inv ∙ h.ensures ∙ (back w64 (get_or c.before.before.before.before.args.t1 c.before.before.before.loop.i (pos 0)) c.before.narrow-arg.given)),
+      front-more _ _ _ _ _ c.before.before.before.loop-i.invariant.1
+          (back w32 h.result h.type-inv ∙ h.ensures ∙ (back w64 (get_or c.before.before.before.before.args.t1 c.before.before.before.loop-i.i (pos 0)) c.before.narrow-arg-1.given)),
     )
 
 returns : tie.Need-returns invariant-loop decreases-loop
 returns c =
     let l = c.before.before.args.t1 in
     let a : length l ≡ 16 = search rules in
-    let e : c.before.loop.i ≡ length l = omega arith in
-    rw (c.before.loop.invariant.1, e) (front_same (pos 0) l (replicate 16 (pos 0)) (sym a))
+    let e : c.before.loop-i.i ≡ length l = omega arith in
+    rw (c.before.loop-i.invariant.1, e) (front_same (pos 0) l (replicate 16 (pos 0)) (sym a))
 
 pub narrowed_spec : {M : Type 1} → statement M
 narrowed_spec =
@@ -39,7 +39,7 @@ narrowed_spec =
     (λ c. (search rules, front-none _ _))
     (λ c. search rules)
     (λ c. search rules)
-    (λ c κs. rw (back w64 _ c.narrow-arg.given) (c.before.before.before.requires c.before.before.loop.i))
+    (λ c κs. rw (back w64 _ c.narrow-arg-1.given) (c.before.before.before.requires c.before.before.loop-i.i))
     (λ c. search rules)
     (λ c. search rules)
     (λ c. search rules)

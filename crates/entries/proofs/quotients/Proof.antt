@@ -12,26 +12,26 @@ use Rattle.integers.proofs.Loops.{front, front-none, front-more, front-map}
 use Rattle.entries.proofs.quotients.Statement.{statement}
 use Rattle.entries.proofs.quotients.Tie as tie
 
-abbrev invariant-loop : tie.invariant-loop
+abbrev invariant-loop : tie.invariant-loop-i
 invariant-loop d l to₀ i₀ to i = (i ≤ 16) × (to ≡ front (λ k. quot_z (get_or l k (pos 0)) (pos d)) i (replicate 16 (pos 0)))
 
-abbrev decreases-loop : tie.decreases-loop
+abbrev decreases-loop : tie.decreases-loop-i
 decreases-loop d l to₀ i₀ to i = 16 - i
 
-loop-again : tie.Need-loop-preserved invariant-loop decreases-loop
+loop-again : tie.Need-loop-i-preserved invariant-loop decreases-loop
 loop-again c =
     let h = c.quotient in (
       search rules,
-      front-more _ _ _ _ _ c.before.before.before.loop.invariant.1
-          (back w64 h.result h.type-inv ∙ h.ensures ∙ ap (λ (z : ℤ). quot_z z (pos c.before.before.before.before.args.d)) (back w64 (get_or c.before.before.before.before.args.t1 c.before.before.before.loop.i (pos 0)) c.before.quotient-arg.given)),
+      front-more _ _ _ _ _ c.before.before.before.loop-i.invariant.1
+          (back w64 h.result h.type-inv ∙ h.ensures ∙ ap (λ (z : ℤ). quot_z z (pos c.before.before.before.before.args.d)) (back w64 (get_or c.before.before.before.before.args.t1 c.before.before.before.loop-i.i (pos 0)) c.before.quotient-arg-1.given)),
     )
 
 returns : tie.Need-returns invariant-loop decreases-loop
 returns c =
     let l = c.before.before.args.t1 in
     let a : length l ≡ 16 = search rules in
-    let e : c.before.loop.i ≡ length l = omega arith in
-    rw (c.before.loop.invariant.1, e) (front-map (λ z. quot_z z (pos c.before.before.args.d)) (pos 0) l (replicate 16 (pos 0)) (sym a))
+    let e : c.before.loop-i.i ≡ length l = omega arith in
+    rw (c.before.loop-i.invariant.1, e) (front-map (λ z. quot_z z (pos c.before.before.args.d)) (pos 0) l (replicate 16 (pos 0)) (sym a))
 
 pub quotients_spec : {M : Type 1} → statement M
 quotients_spec =
@@ -40,7 +40,7 @@ quotients_spec =
     (λ c. (search rules, front-none _ _))
     (λ c. search rules)
     (λ c. search rules)
-    (λ c κs. rw (back w64 _ c.quotient-arg.given) (omega (arith, c.before.before.before.requires.0 c.before.before.loop.i)))
+    (λ c κs. rw (back w64 _ c.quotient-arg-1.given) (omega (arith, c.before.before.before.requires.0 c.before.before.loop-i.i)))
     (λ c. search rules)
     (λ c. search rules)
     (λ c. search rules)

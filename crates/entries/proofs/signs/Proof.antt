@@ -12,27 +12,27 @@ use Rattle.integers.proofs.Loops.{front, front-none, front-more, front-map}
 use Rattle.entries.proofs.signs.Statement.{statement}
 use Rattle.entries.proofs.signs.Tie as tie
 
-abbrev invariant-loop : tie.invariant-loop
+abbrev invariant-loop : tie.invariant-loop-i
 invariant-loop l to₀ i₀ to i = (i ≤ 16) × (to ≡ front (λ k. sign (get_or l k (pos 0))) i (replicate 16 (pos 0)))
 
-abbrev decreases-loop : tie.decreases-loop
+abbrev decreases-loop : tie.decreases-loop-i
 decreases-loop l to₀ i₀ to i = 16 - i
 
-loop-again : tie.Need-loop-preserved invariant-loop decreases-loop
+loop-again : tie.Need-loop-i-preserved invariant-loop decreases-loop
 loop-again c =
     let s = c.before.before.before in
     let h = c.sign in (
       search rules,
-      front-more _ _ _ _ _ s.loop.invariant.1
-          (back w32 h.result h.type-inv ∙ h.ensures ∙ ap sign (back w32 (get_or s.before.args.t1 s.loop.i (pos 0)) c.before.sign-arg.given)),
+      front-more _ _ _ _ _ s.loop-i.invariant.1
+          (back w32 h.result h.type-inv ∙ h.ensures ∙ ap sign (back w32 (get_or s.before.args.t1 s.loop-i.i (pos 0)) c.before.sign-arg-1.given)),
     )
 
 returns : tie.Need-returns invariant-loop decreases-loop
 returns c =
     let l = c.before.before.args.t1 in
     let a : length l ≡ 16 = search rules in
-    let e : c.before.loop.i ≡ length l = omega arith in
-    rw (c.before.loop.invariant.1, e) (front-map sign (pos 0) l (replicate 16 (pos 0)) (sym a))
+    let e : c.before.loop-i.i ≡ length l = omega arith in
+    rw (c.before.loop-i.invariant.1, e) (front-map sign (pos 0) l (replicate 16 (pos 0)) (sym a))
 
 pub signs_spec : {M : Type 1} → statement M
 signs_spec =

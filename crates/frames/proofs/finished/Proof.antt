@@ -5,11 +5,11 @@ use borrow.Author.Tests.{not-true, not-false}
 use Rattle.frames.proofs.finished.Statement.{statement}
 use Rattle.frames.proofs.finished.Tie as tie
 
-returns : tie.Need-returns
-returns c = let d = c.before.before in rw (sym d.is_complete.ensures ∙ not-true d.is_complete.result c.before.if1.true) c.refused.ensures
+returns : tie.Need-returns-then-not-is_complete
+returns c = let d = c.before.before in rw (sym d.is_complete.ensures ∙ not-true d.is_complete.result c.before.if-not-is_complete.true-raw) c.refused.ensures
 
-returns-2 : tie.Need-returns-2
-returns-2 c = let d = c.before.before.before in rw (sym d.is_complete.ensures ∙ not-false d.is_complete.result c.before.before.if1.false)
+returns-2 : tie.Need-returns
+returns-2 c = let d = c.before.before.before in rw (sym d.is_complete.ensures ∙ not-false d.is_complete.result c.before.before.if-not-is_complete.false-raw)
 
 pub finished_spec : {M : Type 1} → statement M
 finished_spec = tie.close (tie.spec

@@ -21,158 +21,158 @@ use Rattle.frames.proofs.Reaching.{Reached, reached_none, reached_few, reached_t
 use Rattle.frames.proofs.read.Statement.{statement}
 use Rattle.frames.proofs.read.Tie as tie
 
-abbrev invariant-loop : tie.invariant-loop
+abbrev invariant-loop : tie.invariant-loop-at
 invariant-loop input transitions₀ rows₀ buffer₀ p₀ at₀ transitions rows buffer p at = (at ≤ length input) × (length buffer ≡ 1280) × (length input ≤ 65536) × Reached input p transitions rows at
 
-abbrev decreases-loop : tie.decreases-loop
+abbrev decreases-loop : tie.decreases-loop-at
 decreases-loop input transitions₀ rows₀ buffer₀ p₀ at₀ transitions rows buffer p at = length input - at
 
-module _ (l : tie.At-loop invariant-loop decreases-loop) where
+module _ (l : tie.At-loop-at invariant-loop decreases-loop) where
   abbrev input : List ℕ
   input = l.before.before.before.before.before.before.before.args.input.now
 
   abbrev rest : List ℕ
-  rest = drop l.loop.at input
+  rest = drop l.loop-at.at input
 
-  abbrev reached : Reached input l.loop.p l.loop.transitions l.loop.rows l.loop.at
-  reached = l.loop.inv.3
+  abbrev reached : Reached input l.loop-at.p l.loop-at.transitions l.loop-at.rows l.loop-at.at
+  reached = l.loop-at.inv.3
 
   all : read input ≡ remaining nothing input
-  all = read_short input l.loop.inv.2
+  all = read_short input l.loop-at.inv.2
 
-returns : tie.Need-returns invariant-loop decreases-loop
-returns c = c.refused.ensures ∙ sym (ap reading_of (read-long c.before.before.before.args.input.now c.before.if1.true))
+returns : tie.Need-returns-then-input-gt65536 invariant-loop decreases-loop
+returns c = c.refused.ensures ∙ sym (ap reading_of (read-long c.before.before.before.args.input.now c.before.if-input-gt65536.true))
 
-loop-holds : tie.Need-loop-init invariant-loop decreases-loop
+loop-holds : tie.Need-loop-at-init invariant-loop decreases-loop
 loop-holds c =
     let i = c.before.before.before.before.before.before.args.input.now in (
       search rules,
-      c.before.no_bytes.ensures,
+      c.before.no_bytes-buffer.ensures,
       omega arith,
-      rw (c.nothing.ensures, c.before.before.no_rows.ensures, c.before.before.before.no_transitions.ensures) (reached_none i),
+      rw (c.nothing-p.ensures, c.before.before.no_rows-rows.ensures, c.before.before.before.no_transitions-transitions.ensures) (reached_none i),
     )
 
 -- a line of digits, or none
-module _ (c : tie.After-decode invariant-loop decreases-loop) where
-  abbrev at-line : tie.At-loop invariant-loop decreases-loop
+module _ (c : tie.After-decode-l invariant-loop decreases-loop) where
+  abbrev at-line : tie.At-loop-at invariant-loop decreases-loop
   at-line = c.before.before.before
 
-  not-at-end : at-line.loop.at < length (input at-line)
+  not-at-end : at-line.loop-at.at < length (input at-line)
   not-at-end = omega arith
 
-  no_line : c.decode.result.good ≡ false → read (input at-line) ≡ refused NoFrame
+  no_line : c.decode-l.result.good ≡ false → read (input at-line) ≡ refused NoFrame
   no_line e =
       all at-line ∙ ends-broken (input at-line) _ _ _ _ (reached at-line) not-at-end
-      (bad_line (first_bytes (rest at-line)) _ c.decode.result (only_no_frame (rest at-line)) c.decode.ensures.1 e)
+      (bad_line (first_bytes (rest at-line)) _ c.decode-l.result (only_no_frame (rest at-line)) c.decode-l.ensures.1 e)
 
 -- the line, and the frame that it is
-module _ (c : tie.After-frame invariant-loop decreases-loop) where
-  abbrev decoded : tie.After-decode invariant-loop decreases-loop
+module _ (c : tie.After-frame-f invariant-loop decreases-loop) where
+  abbrev decoded : tie.After-decode-l invariant-loop decreases-loop
   decoded = c.before.before.before.before.before
 
-  abbrev at-frame : tie.At-loop invariant-loop decreases-loop
+  abbrev at-frame : tie.At-loop-at invariant-loop decreases-loop
   at-frame = at-line decoded
 
   abbrev bytes : List ℕ
-  bytes = decoded.decode.last.1.1.0
+  bytes = decoded.decode-l.last.1.1.0
 
-  a-line : LineIs (first_bytes (rest at-frame)) bytes decoded.decode.result
-  a-line = good_line (first_bytes (rest at-frame)) bytes decoded.decode.result decoded.decode.ensures.1 (not-false decoded.decode.result.good c.before.before.if2.false)
+  a-line : LineIs (first_bytes (rest at-frame)) bytes decoded.decode-l.result
+  a-line = good_line (first_bytes (rest at-frame)) bytes decoded.decode-l.result decoded.decode-l.ensures.1 (not-false decoded.decode-l.result.good c.before.before.if-not-l.false)
 
-  next-within : at-frame.loop.at + (decoded.decode.result.count * 2 + 1) ≤ length (input at-frame)
-  next-within = omega (arith, front_length (rest at-frame) a-line.bytes a-line.is, a-line.count, length-drop at-frame.loop.at (input at-frame), not-at-end decoded)
+  next-within : at-frame.loop-at.at + (decoded.decode-l.result.count * 2 + 1) ≤ length (input at-frame)
+  next-within = omega (arith, front_length (rest at-frame) a-line.bytes a-line.is, a-line.count, length-drop at-frame.loop-at.at (input at-frame), not-at-end decoded)
 
-  told : Told c.frame.result (reached at-frame).seen (frame (reached at-frame).seen a-line.bytes)
-  told = c.frame.ensures (reached at-frame).seen a-line.bytes (reached at-frame).counted a-line.count a-line.kept
+  told : Told c.frame-f.result (reached at-frame).seen (frame (reached at-frame).seen a-line.bytes)
+  told = c.frame-f.ensures (reached at-frame).seen a-line.bytes (reached at-frame).counted a-line.count a-line.kept
 
 -- the frame is taken
-module _ (c : tie.After-enum-told invariant-loop decreases-loop) where
-  abbrev framed : tie.After-frame invariant-loop decreases-loop
+module _ (c : tie.In-Found invariant-loop decreases-loop) where
+  abbrev framed : tie.After-frame-f invariant-loop decreases-loop
   framed = c.before.before
 
-  abbrev here : tie.At-loop invariant-loop decreases-loop
+  abbrev here : tie.At-loop-at invariant-loop decreases-loop
   here = at-frame framed
 
   abbrev f : Frame
-  f = framed.frame.result
+  f = framed.frame-f.result
 
   was-taken : TakenAs f (reached here).seen (frame (reached here).seen (a-line framed).bytes)
-  was-taken = taken_frame f (reached here).seen _ (told framed) c.enum_told.given.1
+  was-taken = taken_frame f (reached here).seen _ (told framed) c.enum_told-1.given.1
 
-  slots : (f.kind ≡ 4 → here.loop.p.transitions < 64) × (f.kind ≡ 3 → here.loop.p.rows < 128)
+  slots : (f.kind ≡ 4 → here.loop-at.p.transitions < 64) × (f.kind ≡ 3 → here.loop-at.p.rows < 128)
   slots = slot (input here) _ _ _ _ (reached here) (not-at-end (decoded framed)) (a-line framed).bytes (a-line framed).is was-taken.seen f was-taken.is was-taken.met
 
-frame-requires : tie.Need-frame-requires invariant-loop decreases-loop
+frame-requires : tie.Need-frame-f-requires invariant-loop decreases-loop
 frame-requires c κs =
     let d = c.before.before.before.before in
-    ((reached_few _ _ _ _ _ (reached (at-line d))).0, d.decode.ensures.0)
+    ((reached_few _ _ _ _ _ (reached (at-line d))).0, d.decode-l.ensures.0)
 
-mul_at : tie.Need-overflow-mul-at invariant-loop decreases-loop
-mul_at c = let h = next-within (framed c.before) in let k = (here c.before).loop.inv.2 in omega arith
+mul_at : tie.Need-overflow_mul-at invariant-loop decreases-loop
+mul_at c = let h = next-within (framed c.before) in let k = (here c.before).loop-at.inv.2 in omega arith
 
-add_at : tie.Need-overflow-add-at invariant-loop decreases-loop
-add_at c = let h = next-within (framed c.before) in let k = (here c.before).loop.inv.2 in omega arith
+add_at : tie.Need-overflow_add-at invariant-loop decreases-loop
+add_at c = let h = next-within (framed c.before) in let k = (here c.before).loop-at.inv.2 in omega arith
 
-add-at-2 : tie.Need-overflow-add-at-2 invariant-loop decreases-loop
-add-at-2 c = let h = next-within (framed c.before) in let k = (here c.before).loop.inv.2 in omega arith
+add-at-2 : tie.Need-overflow_add-at-in-loop-at invariant-loop decreases-loop
+add-at-2 c = let h = next-within (framed c.before) in let k = (here c.before).loop-at.inv.2 in omega arith
 
-after-requires : tie.Need-after-requires invariant-loop decreases-loop
+after-requires : tie.Need-after-p-requires invariant-loop decreases-loop
 after-requires c κs = let r = reached_few _ _ _ _ _ (reached (here c.before)) in (r.1, r.2)
 
-mul-transitions : tie.Need-overflow-mul-transitions invariant-loop decreases-loop
-mul-transitions c = let h = (slots c.before.before.before.before).0 c.before.if3.true in omega arith
+mul-transitions : tie.Need-offset_bounds-transitions-i invariant-loop decreases-loop
+mul-transitions c = let h = (slots c.before.before.before.before).0 c.before.if-kind-eq4.true in omega arith
 
-set-transitions : tie.Need-array-set-from-transitions invariant-loop decreases-loop
-set-transitions c = (slots c.before.before.before.before).0 c.before.if3.true
+set-transitions : tie.Need-bounds-transitions-i invariant-loop decreases-loop
+set-transitions c = (slots c.before.before.before.before).0 c.before.if-kind-eq4.true
 
-loop-less : tie.Need-loop-smaller invariant-loop decreases-loop
+loop-less : tie.Need-loop-at-smaller-then-kind-eq4 invariant-loop decreases-loop
 loop-less c = let h = next-within (framed c.before.before.before.before) in omega arith
 
-mul-rows : tie.Need-overflow-mul-rows invariant-loop decreases-loop
-mul-rows c = let h = (slots c.before.before.before.before.before).1 c.before.if4.true in omega arith
+mul-rows : tie.Need-offset_bounds-rows-j invariant-loop decreases-loop
+mul-rows c = let h = (slots c.before.before.before.before.before).1 c.before.if-kind-eq3.true in omega arith
 
-set-rows-need : tie.Need-array-set-from-rows invariant-loop decreases-loop
-set-rows-need c = (slots c.before.before.before.before.before).1 c.before.if4.true
+set-rows-need : tie.Need-bounds-rows-j invariant-loop decreases-loop
+set-rows-need c = (slots c.before.before.before.before.before).1 c.before.if-kind-eq3.true
 
-loop-less-2 : tie.Need-loop-smaller-2 invariant-loop decreases-loop
+loop-less-2 : tie.Need-loop-at-smaller-then-kind-eq3 invariant-loop decreases-loop
 loop-less-2 c = let h = next-within (framed c.before.before.before.before.before) in omega arith
 
-loop-less-3 : tie.Need-loop-smaller-3 invariant-loop decreases-loop
+loop-less-3 : tie.Need-loop-at-smaller invariant-loop decreases-loop
 loop-less-3 c = let h = next-within (framed c.before.before.before.before) in omega arith
 
-returns-2 : tie.Need-returns-2 invariant-loop decreases-loop
-returns-2 c = let d = c.before.before.before.before in c.refused2.ensures ∙ sym (ap reading_of (no_line d (not-true d.decode.result.good c.before.if2.true)))
+returns-2 : tie.Need-returns-then-not-l invariant-loop decreases-loop
+returns-2 c = let d = c.before.before.before.before in c.refused-then-not-l.ensures ∙ sym (ap reading_of (no_line d (not-true d.decode-l.result.good c.before.if-not-l.true)))
 
-returns-3 : tie.Need-returns-3 invariant-loop decreases-loop
+returns-3 : tie.Need-returns-in-Refused invariant-loop decreases-loop
 returns-3 c =
     let k = c.before.before in
     let fr = k.before.before in
     let l = at-frame fr in
-    let g = k.o.given in
-    let e = refused-frame fr.frame.result (reached l).seen _ g.0.0 (told fr) g.1 in
-    c.refused3.ensures ∙
+    let g = k.o-1.given in
+    let e = refused-frame fr.frame-f.result (reached l).seen _ g.0.0 (told fr) g.1 in
+    c.refused-in-Refused.ensures ∙
     sym (ap reading_of (all l ∙ ends-refused (input l) _ _ _ _ (reached l) (not-at-end (decoded fr)) (a-line fr).bytes (a-line fr).is g.0.0 e))
 
-loop-again : tie.Need-loop-preserved invariant-loop decreases-loop
+loop-again : tie.Need-loop-at-preserved-then-kind-eq4 invariant-loop decreases-loop
 loop-again c =
     let e = c.before.before.before.before in
-    (next-within (framed e), (decoded (framed e)).decode.ensures.0, (here e).loop.invariant.2, reached_transition (input (here e)) _ _ _ _ (reached (here e)) (not-at-end (decoded (framed e))) (a-line (framed e)).bytes (a-line (framed e)).is (was-taken e).seen (f e) (was-taken e).is (was-taken e).met c.before.before.after.result c.before.before.after.ensures _ (a-line (framed e)).count c.before.if3.true)
+    (next-within (framed e), (decoded (framed e)).decode-l.ensures.0, (here e).loop-at.invariant.2, reached_transition (input (here e)) _ _ _ _ (reached (here e)) (not-at-end (decoded (framed e))) (a-line (framed e)).bytes (a-line (framed e)).is (was-taken e).seen (f e) (was-taken e).is (was-taken e).met c.before.before.after-p.result c.before.before.after-p.ensures _ (a-line (framed e)).count c.before.if-kind-eq4.true)
 
-loop-again-2 : tie.Need-loop-preserved-2 invariant-loop decreases-loop
+loop-again-2 : tie.Need-loop-at-preserved-then-kind-eq3 invariant-loop decreases-loop
 loop-again-2 c =
     let e = c.before.before.before.before.before in
-    (next-within (framed e), (decoded (framed e)).decode.ensures.0, (here e).loop.invariant.2, reached_row (input (here e)) _ _ _ _ (reached (here e)) (not-at-end (decoded (framed e))) (a-line (framed e)).bytes (a-line (framed e)).is (was-taken e).seen (f e) (was-taken e).is (was-taken e).met c.before.before.before.after.result c.before.before.before.after.ensures _ (a-line (framed e)).count c.before.if4.true)
+    (next-within (framed e), (decoded (framed e)).decode-l.ensures.0, (here e).loop-at.invariant.2, reached_row (input (here e)) _ _ _ _ (reached (here e)) (not-at-end (decoded (framed e))) (a-line (framed e)).bytes (a-line (framed e)).is (was-taken e).seen (f e) (was-taken e).is (was-taken e).met c.before.before.before.after-p.result c.before.before.before.after-p.ensures _ (a-line (framed e)).count c.before.if-kind-eq3.true)
 
-loop-again-3 : tie.Need-loop-preserved-3 invariant-loop decreases-loop
+loop-again-3 : tie.Need-loop-at-preserved invariant-loop decreases-loop
 loop-again-3 c =
     let e = c.before.before.before.before in
-    (next-within (framed e), (decoded (framed e)).decode.ensures.0, (here e).loop.invariant.2, reached_other (input (here e)) _ _ _ _ (reached (here e)) (not-at-end (decoded (framed e))) (a-line (framed e)).bytes (a-line (framed e)).is (was-taken e).seen (f e) (was-taken e).is (was-taken e).met c.before.before.after.result c.before.before.after.ensures _ (a-line (framed e)).count c.before.if3.false c.if4.false)
+    (next-within (framed e), (decoded (framed e)).decode-l.ensures.0, (here e).loop-at.invariant.2, reached_other (input (here e)) _ _ _ _ (reached (here e)) (not-at-end (decoded (framed e))) (a-line (framed e)).bytes (a-line (framed e)).is (was-taken e).seen (f e) (was-taken e).is (was-taken e).met c.before.before.after-p.result c.before.before.after-p.ensures _ (a-line (framed e)).count c.before.if-kind-eq4.false c.if-kind-eq3.false)
 
-returns-4 : tie.Need-returns-4 invariant-loop decreases-loop
+returns-4 : tie.Need-returns invariant-loop decreases-loop
 returns-4 c =
     let l = c.before.before in
     let r = reached l in
-    c.finished.ensures ∙ (rw (tables_are (input l) _ _ _ _ r)) ∙ sym (ap reading_of (all l ∙ ends-here (input l) _ _ _ _ r c.before.loop-test.false))
+    c.finished.ensures ∙ (rw (tables_are (input l) _ _ _ _ r)) ∙ sym (ap reading_of (all l ∙ ends-here (input l) _ _ _ _ r c.before.loop-at-test.false))
 
 pub read_spec : {M : Type 1} → statement M
 read_spec =

@@ -4,7 +4,7 @@ use Rattle.frames.proofs.refused.Statement.{statement}
 use Rattle.frames.proofs.refused.Tie as tie
 
 returns : tie.Need-returns
-returns c = rw c.no-model.ensures
+returns c = rw c.no_model.ensures
 
 pub refused_spec : {M : Type 1} → statement M
 refused_spec = tie.close (tie.spec

@@ -14,12 +14,12 @@ use Rattle.frames.proofs.write_answer.Statement.{statement}
 use Rattle.frames.proofs.write_answer.Tie as tie
 
 -- the whole answer, and how long it is
-module _ (c : tie.After-region-length) where
+module _ (c : tie.After-region_length-all) where
   abbrev start : tie.Start
   start = c.before.before
 
   abbrev to : List ℕ
-  to = start.args.to.now
+  to = start.args.to-1.now
 
   abbrev lines : List ℕ
   lines = row_lines (rows_at start.args.region.now 0 start.args.rows)
@@ -27,23 +27,23 @@ module _ (c : tie.After-region-length) where
   abbrev whole : List ℕ
   whole = answer_lines start.args.outcome start.args.states start.args.attempts start.args.formed (rows_at start.args.region.now 0 start.args.rows)
 
-  size : length whole ≡ c.region-length.result + 23
+  size : length whole ≡ c.region_length-all.result + 23
   size =
       answer-long start.args.outcome start.args.states start.args.attempts start.args.formed start.args.region.now start.args.rows ∙
-      ap (λ (k : ℕ). k + 23) (sym c.region-length.ensures.0)
+      ap (λ (k : ℕ). k + 23) (sym c.region_length-all.ensures.0)
 
-returns : tie.Need-returns
+returns : tie.Need-returns-then-to-all
 returns c = let l = c.before in no_room (whole l) (to l) (omega (arith, size l))
 
-put-region-requires : tie.Need-put-region-requires
+put-region-requires : tie.Need-put_region-requires
 put-region-requires c κs =
     let p = c.before.before.before in
     let l = p.before.before.before in
     let a = (start l).args in
-    let w = p.put-answer.ensures in
-    ((start l).requires.0, (start l).requires.1, omega (arith, w.place, w.long, answer-length a.outcome a.states a.attempts a.formed a.rows, l.region-length.ensures.0))
+    let w = p.put_answer-next.ensures in
+    ((start l).requires.0, (start l).requires.1, omega (arith, w.place, w.long, answer-length a.outcome a.states a.attempts a.formed a.rows, l.region_length-all.ensures.0))
 
-returns-2 : tie.Need-returns-2
+returns-2 : tie.Need-returns
 returns-2 c =
     let r = c.before.before in
     let p = r.before.before.before.before in
@@ -53,7 +53,7 @@ returns-2 c =
     let h = answer-length a.outcome a.states a.attempts a.formed a.rows in
     all-written (whole l) (to l) _ _ (omega (arith, size l))
     (rw (answer-is a.outcome a.states a.attempts a.formed a.region.now a.rows)
-    (wrote_then head (lines l) 0 _ _ (to l) _ _ (omega (arith, h)) p.put-answer.ensures r.put-region.ensures))
+    (wrote_then head (lines l) 0 _ _ (to l) _ _ (omega (arith, h)) p.put_answer-next.ensures r.put_region.ensures))
 
 pub write_answer_spec : {M : Type 1} → statement M
 write_answer_spec =

@@ -19,13 +19,13 @@ module _ (c : tie.Start) where
   sum : SFits w64 (c.args.b *ℤ c.args.x +ℤ c.args.a *ℤ c.args.y)
   sum = fits_abs _ (omega (arith, combined_le 1000000000 c.args.x c.args.y c.args.a c.args.b c.requires.0 c.requires.1 c.requires.2 c.requires.3))
 
-mul-result : tie.Need-overflow-mul-result
+mul-result : tie.Need-overflow_mul-result
 mul-result c = rw (to_z-of_z c.ranges.b, to_z-of_z c.ranges.x) (left c)
 
-mul-result-2 : tie.Need-overflow-mul-result-2
+mul-result-2 : tie.Need-overflow_mul-result-2
 mul-result-2 c = rw (to_z-of_z c.ranges.a, to_z-of_z c.ranges.y) (right c)
 
-add-result : tie.Need-overflow-add-result
+add-result : tie.Need-overflow_add-result
 add-result c =
     rw (to_z-of_z c.ranges.b, to_z-of_z c.ranges.x, to_z-of_z c.ranges.a, to_z-of_z c.ranges.y, to_z-of_z (left c), to_z-of_z (right c))
     (sum c)

@@ -14,9 +14,9 @@ use Rattle.integers.proofs.Bounds.{nonNeg_of, up-mag, down_mag, down_nonNeg, dow
 use Rattle.integers.proofs.magnitude.Statement.{statement}
 use Rattle.integers.proofs.magnitude.Tie as tie
 
-module _ (c : tie.Then1) where
+module _ (c : tie.Then-x-lt0) where
   below : lt_z c.before.args.x (pos 0) ≡ true
-  below = rw (to_z-of_z c.before.ranges.x) at c.if1.true
+  below = rw (to_z-of_z c.before.ranges.x) at c.if-x-lt0.true
 
   up : SFits w64 (suc_ℤ c.before.args.x)
   up = record { sfits = lt_of_le_of_lt (up-mag c.before.args.x below) c.before.ranges.x.sfits }
@@ -39,6 +39,6 @@ magnitude_spec =
     (λ c. rw (to_z-of_z c.before.ranges.x, +ℤ_one c.before.args.x, to_z-of_z (up c), +ℤ_idl (neg_ℤ (suc_ℤ c.before.args.x))) (down c))
     (λ c. rw (turned c) (down_nonNeg c.before.args.x (below c), omega (arith, down_abs c.before.args.x (below c), most c)))
     (λ c. rw (turned c) (omega (arith, down_abs c.before.args.x (below c), most c)))
-    (λ c. let s = c.before in rw (to_z-of_z s.ranges.x) (nonNeg_of s.args.x (rw (to_z-of_z s.ranges.x) at c.if1.false), omega (arith, nat_abs-le s.args.x s.ranges.x.sfits)))
+    (λ c. let s = c.before in rw (to_z-of_z s.ranges.x) (nonNeg_of s.args.x (rw (to_z-of_z s.ranges.x) at c.if-x-lt0.false), omega (arith, nat_abs-le s.args.x s.ranges.x.sfits)))
     (λ c. rw (turned c) (down_abs c.before.args.x (below c)))
     (λ c. search rules))

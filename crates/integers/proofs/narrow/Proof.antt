@@ -10,7 +10,7 @@ use Rattle.integers.proofs.narrow.Tie as tie
 small : (c : tie.Start) → SFits w32 c.args.x
 small c = fits_abs c.args.x (omega arith)
 
-cast-result : tie.Need-overflow-cast-result
+cast-result : tie.Need-overflow_cast-result
 cast-result c = rw (to_z-of_z c.ranges.x) (small c)
 
 returns : tie.Need-returns

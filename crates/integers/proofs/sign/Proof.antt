@@ -13,29 +13,29 @@ use Rattle.integers.proofs.Tests.{above_lt, below_lt}
 use Rattle.integers.proofs.sign.Statement.{statement}
 use Rattle.integers.proofs.sign.Tie as tie
 
-above : (c : tie.Joined1) → c.if1.above ≡ cond (isAbove c.before.args.x) 1 0
+above : (c : tie.Joined-x-gt0) → c.if-x-gt0.above-bits ≡ cond (isAbove c.before.args.x) 1 0
 above c =
     let e = above_lt c.before.args.x in
     ⊎_elim
     (λ w. w.1 ∙ sym (ap (λ (b : Bool). cond b 1 0) (e ∙ rw (to_z-of_z c.before.ranges.x) at w.0.taken)))
     (λ w. w.1 ∙ sym (ap (λ (b : Bool). cond b 1 0) (e ∙ rw (to_z-of_z c.before.ranges.x) at w.0.left)))
-    c.if1.branch
+    c.if-x-gt0.branch
 
-below : (c : tie.Joined2) → c.if2.below ≡ cond (isBelow c.before.before.args.x) 1 0
+below : (c : tie.Joined-x-lt0) → c.if-x-lt0.below-bits ≡ cond (isBelow c.before.before.args.x) 1 0
 below c =
     let s = c.before.before in
     let e = below_lt s.args.x in
     ⊎_elim
     (λ w. w.1 ∙ sym (ap (λ (b : Bool). cond b 1 0) (e ∙ rw (to_z-of_z s.ranges.x) at w.0.taken)))
     (λ w. w.1 ∙ sym (ap (λ (b : Bool). cond b 1 0) (e ∙ rw (to_z-of_z s.ranges.x) at w.0.left)))
-    c.if2.branch
+    c.if-x-lt0.branch
 
 difference : (x : ℤ) → to_z w32 (cond (isAbove x) 1 0) -ℤ to_z w32 (cond (isBelow x) 1 0) ≡ sign x
 difference (pos zero) = refl
 difference (pos (suc n)) = refl
 difference (negsuc n) = refl
 
-read : (c : tie.Joined2) → to_z w32 c.before.if1.above -ℤ to_z w32 c.if2.below ≡ sign c.before.before.args.x
+read : (c : tie.Joined-x-lt0) → to_z w32 c.before.if-x-gt0.above-bits -ℤ to_z w32 c.if-x-lt0.below-bits ≡ sign c.before.before.args.x
 read c = rw (above c.before, below c) (difference c.before.before.args.x)
 
 sign_fits : (x : ℤ) → SFits w32 (sign x)
@@ -43,7 +43,7 @@ sign_fits (pos zero) = record { sfits = lit< tt }
 sign_fits (pos (suc n)) = record { sfits = lit< tt }
 sign_fits (negsuc n) = record { sfits = lit< tt }
 
-sub-result : tie.Need-overflow-sub-result
+sub-result : tie.Need-overflow_sub-result
 sub-result c = rw (read c) (sign_fits c.before.before.args.x)
 
 returns : tie.Need-returns

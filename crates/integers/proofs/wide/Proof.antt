@@ -3,7 +3,7 @@ use mir.Facts.{to_z-of_z, sfits_widen}
 use Rattle.integers.proofs.wide.Statement.{statement}
 use Rattle.integers.proofs.wide.Tie as tie
 
-cast-result : tie.Need-overflow-cast-result
+cast-result : tie.Need-overflow_cast-result
 cast-result c = rw (to_z-of_z c.ranges.x) (sfits_widen tt c.ranges.x)
 
 returns : tie.Need-returns

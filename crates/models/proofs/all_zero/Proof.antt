@@ -13,37 +13,37 @@ use Rattle.integers.proofs.Loops.{every_stops, every_turn, every-done}
 use Rattle.models.proofs.all_zero.Statement.{statement}
 use Rattle.models.proofs.all_zero.Tie as tie
 
-abbrev invariant-loop : tie.invariant-loop
+abbrev invariant-loop : tie.invariant-loop-i
 invariant-loop e i₀ i = (i ≤ 16) × (every is_zero (drop i e) ≡ every is_zero e)
 
-abbrev decreases-loop : tie.decreases-loop
+abbrev decreases-loop : tie.decreases-loop-i
 decreases-loop e i₀ i = 16 - i
 
 long : (c : tie.Start invariant-loop decreases-loop) → length c.args.t1 ≡ 16
 long c = search rules
 
-loop-holds : tie.Need-loop-init invariant-loop decreases-loop
+loop-holds : tie.Need-loop-i-init invariant-loop decreases-loop
 loop-holds c = (search rules, refl)
 
-returns : tie.Need-returns invariant-loop decreases-loop
+returns : tie.Need-returns-then-e-i-ne0 invariant-loop decreases-loop
 returns c =
     let l = c.before.before.before in
     let e = l.before.args.t1 in
-    every_stops is_zero e l.loop.i (pos 0) (omega (arith, long l.before)) (zero_bits w32 (get_or e l.loop.i (pos 0)) c.if1.true) ∙ l.loop.invariant.1
+    every_stops is_zero e l.loop-i.i (pos 0) (omega (arith, long l.before)) (zero_bits w32 (get_or e l.loop-i.i (pos 0)) c.if-e-i-ne0.true) ∙ l.loop-i.invariant.1
 
-loop-again : tie.Need-loop-preserved invariant-loop decreases-loop
+loop-again : tie.Need-loop-i-preserved invariant-loop decreases-loop
 loop-again c =
     let l = c.before.before.before in
     let e = l.before.args.t1 in (
       search rules,
-      every_turn is_zero e l.loop.i (pos 0) (omega (arith, long l.before))
-          (bits-zero w32 (get_or e l.loop.i (pos 0)) c.before.if12.given c.if1.false) ∙ l.loop.invariant.1,
+      every_turn is_zero e l.loop-i.i (pos 0) (omega (arith, long l.before))
+          (bits-zero w32 (get_or e l.loop-i.i (pos 0)) c.before.t8-1.given c.if-e-i-ne0.false) ∙ l.loop-i.invariant.1,
     )
 
-returns-2 : tie.Need-returns-2 invariant-loop decreases-loop
+returns-2 : tie.Need-returns invariant-loop decreases-loop
 returns-2 c =
     let l = c.before in
-    every-done is_zero l.before.args.t1 l.loop.i (pos 0) (omega (arith, long l.before)) ∙ l.loop.invariant.1
+    every-done is_zero l.before.args.t1 l.loop-i.i (pos 0) (omega (arith, long l.before)) ∙ l.loop-i.invariant.1
 
 pub all_zero_spec : {M : Type 1} → statement M
 all_zero_spec =

@@ -6,34 +6,34 @@ use mathlib.Core.Path.{◌≡◌}
 use Rattle.readings.proofs.with_transitions.Statement.{statement}
 use Rattle.readings.proofs.with_transitions.Tie as tie
 
-abbrev invariant-loop : tie.invariant-loop
+abbrev invariant-loop : tie.invariant-loop-i
 invariant-loop h m header sum₀ i₀ sum i = i ≤ 64
 
-abbrev decreases-loop : tie.decreases-loop
+abbrev decreases-loop : tie.decreases-loop-i
 decreases-loop h m header sum₀ i₀ sum i = 64 - i
 
-loop-holds : tie.Need-loop-init invariant-loop decreases-loop
+loop-holds : tie.Need-loop-i-init invariant-loop decreases-loop
 loop-holds c = search rules
 
-cast-if1 : tie.Need-overflow-cast-if1 invariant-loop decreases-loop
+cast-if1 : tie.Need-overflow_cast-header invariant-loop decreases-loop
 cast-if1 c = search rules
 
-mul-with-transition : tie.Need-overflow-mul-with-transition invariant-loop decreases-loop
+mul-with-transition : tie.Need-offset_bounds-m-i invariant-loop decreases-loop
 mul-with-transition c = search rules
 
-element-copy-out-with-transition : tie.Need-element-copy-out-with-transition invariant-loop decreases-loop
+element-copy-out-with-transition : tie.Need-bounds-m-i invariant-loop decreases-loop
 element-copy-out-with-transition c = search rules
 
-with-transition-requires : tie.Need-with-transition-requires invariant-loop decreases-loop
+with-transition-requires : tie.Need-with_transition-sum-requires invariant-loop decreases-loop
 with-transition-requires c κs = search rules
 
-add-i : tie.Need-overflow-add-i invariant-loop decreases-loop
+add-i : tie.Need-overflow_step-i invariant-loop decreases-loop
 add-i c = search rules
 
-loop-less : tie.Need-loop-smaller invariant-loop decreases-loop
+loop-less : tie.Need-loop-i-smaller invariant-loop decreases-loop
 loop-less c = search rules
 
-loop-again : tie.Need-loop-preserved invariant-loop decreases-loop
+loop-again : tie.Need-loop-i-preserved invariant-loop decreases-loop
 loop-again c = search rules
 
 returns : tie.Need-returns invariant-loop decreases-loop

@@ -12,35 +12,35 @@ use Rattle.removal.proofs.AtOnce.{flag-zero, flag_one, flag_neither, flag_at, fl
 use Rattle.removal.proofs.flags_fit.Statement.{statement}
 use Rattle.removal.proofs.flags_fit.Tie as tie
 
-abbrev invariant-loop : tie.invariant-loop
+abbrev invariant-loop : tie.invariant-loop-i
 invariant-loop s n i₀ i = (i ≤ n) × (every (flag_at s) (from i (n - i)) ≡ flags_fit s n)
 
-abbrev decreases-loop : tie.decreases-loop
+abbrev decreases-loop : tie.decreases-loop-i
 decreases-loop s n i₀ i = n - i
 
-returns : tie.Need-returns invariant-loop decreases-loop
+returns : tie.Need-returns-then-f-ne1 invariant-loop decreases-loop
 returns c =
     let f = c.before.before in
     let t = f.before in
     let l = t.before in
     let z = l.before.args in
-    flags-stop z.s.now z.n l.loop.i t.loop-test.true
-    (flag_neither (get_or z.s.now (l.loop.i * 17 + 16) (pos 0)) f.f.given c.before.if1.true c.if2.true) ∙ l.loop.invariant.1
+    flags-stop z.s.now z.n l.loop-i.i t.loop-i-test.true
+    (flag_neither (get_or z.s.now (l.loop-i.i * 17 + 16) (pos 0)) f.f-1.given c.before.if-f-ne0.true c.if-f-ne1.true) ∙ l.loop-i.invariant.1
 
-loop-again : tie.Need-loop-preserved invariant-loop decreases-loop
+loop-again : tie.Need-loop-i-preserved invariant-loop decreases-loop
 loop-again c =
     let f = c.before in
     let t = f.before in
     let l = t.before in
     let z = l.before.args in
-    let x = get_or z.s.now (l.loop.i * 17 + 16) (pos 0) in (
+    let x = get_or z.s.now (l.loop-i.i * 17 + 16) (pos 0) in (
       omega arith,
-      flags_turn z.s.now z.n l.loop.i t.loop-test.true
-          (⊎_elim (λ w. flag_one x f.f.given w.0.taken w.1.left) (λ w. flag-zero x f.f.given w.left) c.if1.branch) ∙ l.loop.invariant.1,
+      flags_turn z.s.now z.n l.loop-i.i t.loop-i-test.true
+          (⊎_elim (λ w. flag_one x f.f-1.given w.0.taken w.1.left) (λ w. flag-zero x f.f-1.given w.left) c.if-f-ne0.branch) ∙ l.loop-i.invariant.1,
     )
 
-returns-2 : tie.Need-returns-2 invariant-loop decreases-loop
-returns-2 c = let l = c.before in let z = l.before.args in flags-done z.s.now z.n l.loop.i c.loop-test.false ∙ l.loop.invariant.1
+returns-2 : tie.Need-returns invariant-loop decreases-loop
+returns-2 c = let l = c.before in let z = l.before.args in flags-done z.s.now z.n l.loop-i.i c.loop-i-test.false ∙ l.loop-i.invariant.1
 
 pub flags_fit_spec : {M : Type 1} → statement M
 flags_fit_spec =

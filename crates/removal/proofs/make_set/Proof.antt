@@ -15,52 +15,52 @@ use Rattle.removal.proofs.Making.{Growing, growing_none, next_growing, making_st
 use Rattle.removal.proofs.make_set.Statement.{statement}
 use Rattle.removal.proofs.make_set.Tie as tie
 
-abbrev invariant-loop : tie.invariant-loop
+abbrev invariant-loop : tie.invariant-loop-i
 invariant-loop s₀ n c₀ i₀ s c i =
     (i ≤ n) × (length s ≡ length s₀) × Ready s c × Left (progress s c) s₀ s c × Growing (progress s c) i ×
     (put_all (rows_at s₀ (0 + i * 17) (n - i)) (progress s c) ≡ joined (rows_at s₀ 0 n) [])
 
-abbrev decreases-loop : tie.decreases-loop
+abbrev decreases-loop : tie.decreases-loop-i
 decreases-loop s₀ n c₀ i₀ s c i = n - i
 
-loop-holds : tie.Need-loop-init invariant-loop decreases-loop
+loop-holds : tie.Need-loop-i-init invariant-loop decreases-loop
 loop-holds c =
-    let s = c.before.args.s.now in
+    let s = c.before.args.s-1.now in
     let r = ready_start (holds-none s c.before.requires.1) in
-    rw c.with.ensures (search rules, refl, r, ready_left s _ r, growing_none s, making_start s c.before.args.n)
+    rw c.with-c.ensures (search rules, refl, r, ready_left s _ r, growing_none s, making_start s c.before.args.n)
 
 -- in a turn: where the row is read, and what was put
-settled : (c : tie.After-divided-down invariant-loop decreases-loop) → (let l = c.before.before.before.before.before in c.divided_down.result ≡ divided_down (row_at l.loop.s (l.loop.i * 17)))
+settled : (c : tie.After-divided_down invariant-loop decreases-loop) → (let l = c.before.before.before.before.before in c.divided_down.result ≡ divided_down (row_at l.loop-i.s-1 (l.loop-i.i * 17)))
 settled c = rw c.before.read.ensures at c.divided_down.ensures
 
-loop-again : tie.Need-loop-preserved invariant-loop decreases-loop
+loop-again : tie.Need-loop-i-preserved invariant-loop decreases-loop
 loop-again c =
     let p = c.before in
     let t = p.before.before.before.before.before in
     let l = t.before in
     let b = l.before.before in
-    let s = l.loop.s in
-    let i = l.loop.i in
-    let v = l.loop.invariant in
+    let s = l.loop-i.s-1 in
+    let i = l.loop-i.i in
+    let v = l.loop-i.invariant in
     let r = row_at s (i * 17) in
     let x = divided_down r in
-    let d : Left (next x.fate x.row (progress s l.loop.c)) s p.put.new.0 p.put.result = rw (settled p.before) at p.put.ensures in
+    let d : Left (next x.fate x.row (progress s l.loop-i.c)) s p.put-c.new.0 p.put-c.result = rw (settled p.before) at p.put-c.ensures in
     let small = divided_down-small r in
-    let wide = divided_down-wide r (wide-row_at s (i * 17) (omega (arith, b.requires, t.loop-test.true, v.1))) in
+    let wide = divided_down-wide r (wide-row_at s (i * 17) (omega (arith, b.requires, t.loop-i-test.true, v.1))) in
     let e = put-progress x.fate x.row small wide _ _ _ _ v.2 d in (
       omega arith,
       search rules,
       put_ready x.fate x.row small wide _ _ _ _ v.2 d,
-      put-left x.fate x.row small wide _ _ _ _ v.2 d b.args.s.now b.requires.1 v.3,
-      rw e (next_growing x.fate x.row (progress s l.loop.c) i (omega (arith, b.requires.0, t.loop-test.true)) v.4),
-      making_turn b.args.s.now s l.loop.c b.args.n i t.loop-test.true _ _ (ready_proper s l.loop.c v.2) v.4 v.3 e ∙ v.5,
+      put-left x.fate x.row small wide _ _ _ _ v.2 d b.args.s-1.now b.requires.1 v.3,
+      rw e (next_growing x.fate x.row (progress s l.loop-i.c) i (omega (arith, b.requires.0, t.loop-i-test.true)) v.4),
+      making_turn b.args.s-1.now s l.loop-i.c b.args.n i t.loop-i-test.true _ _ (ready_proper s l.loop-i.c v.2) v.4 v.3 e ∙ v.5,
     )
 
 returns : tie.Need-returns invariant-loop decreases-loop
 returns c =
     let l = c.before in
     let z = l.before.before.args in
-    rw (← l.loop.invariant.5, put_all-done z.s.now 0 z.n l.loop.i (omega arith) (progress l.loop.s l.loop.c)) l.loop.invariant.3
+    rw (← l.loop-i.invariant.5, put_all-done z.s-1.now 0 z.n l.loop-i.i (omega arith) (progress l.loop-i.s-1 l.loop-i.c)) l.loop-i.invariant.3
 
 pub make_set_spec : {M : Type 1} → statement M
 make_set_spec =
@@ -69,11 +69,11 @@ make_set_spec =
     (λ c κs. search rules)
     loop-holds
     (λ c. omega (arith, c.before.before.before.before.before.requires.0))
-    (λ c κs. omega (arith, c.before.before.before.before.before.requires, c.before.before.before.loop.invariant.1))
+    (λ c κs. omega (arith, c.before.before.before.before.before.requires, c.before.before.before.loop-i.invariant.1))
     (λ c κs. search rules)
-    (λ c κs. c.before.before.before.before.before.loop.invariant.2)
+    (λ c κs. c.before.before.before.before.before.loop-i.invariant.2)
     (λ c. search rules)
     (λ c. search rules)
     loop-again
-    (λ c. c.before.loop.invariant.1)
+    (λ c. c.before.loop-i.invariant.1)
     returns)

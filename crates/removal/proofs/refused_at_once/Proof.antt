@@ -5,20 +5,20 @@ use Rattle.removal.proofs.AtOnce.{first_short, second_short, too_many, flag_wron
 use Rattle.removal.proofs.refused_at_once.Statement.{statement}
 use Rattle.removal.proofs.refused_at_once.Tie as tie
 
-returns : tie.Need-returns
-returns c = let z = c.before.before.args in first_short z.count z.variables.now z.first.now z.second.now c.if1.true
+returns : tie.Need-returns-then-first-lt-NUMBERS
+returns c = let z = c.before.before.args in first_short z.count z.variables.now z.first.now z.second.now c.if-first-lt-NUMBERS.true
 
-returns-2 : tie.Need-returns-2
-returns-2 c = let e = c.before in let z = e.before.before.args in second_short z.count z.variables.now z.first.now z.second.now e.if1.false c.if2.true
+returns-2 : tie.Need-returns-then-second-lt-NUMBERS
+returns-2 c = let e = c.before in let z = e.before.before.args in second_short z.count z.variables.now z.first.now z.second.now e.if-first-lt-NUMBERS.false c.if-second-lt-NUMBERS.true
 
-returns-3 : tie.Need-returns-3
+returns-3 : tie.Need-returns-then-count-gt-ROWS
 returns-3 c =
     let f = c.before in
     let e = f.before in
     let z = e.before.before.args in
-    too_many z.count z.variables.now z.first.now z.second.now e.if1.false f.if2.false c.if3.true
+    too_many z.count z.variables.now z.first.now z.second.now e.if-first-lt-NUMBERS.false f.if-second-lt-NUMBERS.false c.if-count-gt-ROWS.true
 
-returns-4 : tie.Need-returns-4
+returns-4 : tie.Need-returns-then-variables_fit
 returns-4 c =
     let v = c.before in
     let k = v.before.before in
@@ -26,10 +26,10 @@ returns-4 c =
     let f = g.before in
     let e = f.before in
     let z = e.before.before.args in
-    none_wrong z.count z.variables.now z.first.now z.second.now e.if1.false f.if2.false g.if3.false
-    (sym k.flags_fit.ensures ∙ v.before.if4.true) (sym v.variables-fit.ensures ∙ c.if5.true)
+    none_wrong z.count z.variables.now z.first.now z.second.now e.if-first-lt-NUMBERS.false f.if-second-lt-NUMBERS.false g.if-count-gt-ROWS.false
+    (sym k.flags_fit.ensures ∙ v.before.if-flags_fit.true) (sym v.variables_fit.ensures ∙ c.if-variables_fit.true)
 
-returns-5 : tie.Need-returns-5
+returns-5 : tie.Need-returns-else-variables_fit
 returns-5 c =
     let v = c.before in
     let k = v.before.before in
@@ -37,18 +37,18 @@ returns-5 c =
     let f = g.before in
     let e = f.before in
     let z = e.before.before.args in
-    variable_wrong z.count z.variables.now z.first.now z.second.now e.if1.false f.if2.false g.if3.false
-    (sym k.flags_fit.ensures ∙ v.before.if4.true) (sym v.variables-fit.ensures ∙ c.if5.false)
+    variable_wrong z.count z.variables.now z.first.now z.second.now e.if-first-lt-NUMBERS.false f.if-second-lt-NUMBERS.false g.if-count-gt-ROWS.false
+    (sym k.flags_fit.ensures ∙ v.before.if-flags_fit.true) (sym v.variables_fit.ensures ∙ c.if-variables_fit.false)
 
-returns-6 : tie.Need-returns-6
+returns-6 : tie.Need-returns-else-flags_fit
 returns-6 c =
     let k = c.before in
     let g = k.before in
     let f = g.before in
     let e = f.before in
     let z = e.before.before.args in
-    flag_wrong z.count z.variables.now z.first.now z.second.now e.if1.false f.if2.false g.if3.false
-    (sym k.flags_fit.ensures ∙ c.if4.false)
+    flag_wrong z.count z.variables.now z.first.now z.second.now e.if-first-lt-NUMBERS.false f.if-second-lt-NUMBERS.false g.if-count-gt-ROWS.false
+    (sym k.flags_fit.ensures ∙ c.if-flags_fit.false)
 
 pub refused_at_once_spec : {M : Type 1} → statement M
 refused_at_once_spec =

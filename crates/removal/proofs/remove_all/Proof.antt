@@ -8,25 +8,25 @@ use Rattle.removal.proofs.Turns.{Turned, turned_none, turned-between, turned_mor
 use Rattle.removal.proofs.remove_all.Statement.{statement}
 use Rattle.removal.proofs.remove_all.Tie as tie
 
-abbrev invariant-loop : tie.invariant-loop
+abbrev invariant-loop : tie.invariant-loop-i
 invariant-loop first₀ second₀ variables done₀ i₀ first second done i = (i ≤ length variables) × Turned (take i variables) first₀ second₀ done₀ first second done
 
-abbrev decreases-loop : tie.decreases-loop
+abbrev decreases-loop : tie.decreases-loop-i
 decreases-loop first₀ second₀ variables done₀ i₀ first second done i = length variables - i
 
-loop-holds : tie.Need-loop-init invariant-loop decreases-loop
-loop-holds c = let z = c.before.args in (search rules, turned_none z.variables.now z.first.now z.second.now z.s c.before.requires.0)
+loop-holds : tie.Need-loop-i-init invariant-loop decreases-loop
+loop-holds c = let z = c.before.args in (search rules, turned_none z.variables.now z.first-1.now z.second-1.now z.s c.before.requires.0)
 
-remove-next-requires : tie.Need-remove-next-requires invariant-loop decreases-loop
+remove-next-requires : tie.Need-remove_next-done-requires invariant-loop decreases-loop
 remove-next-requires c κs =
     let t = c.before.before.before in
     let l = t.before in
     let b = l.before.before in
     let z = b.args in
-    let v = variable_at z.variables.now l.loop.i b.requires.1 t.loop-test.true in
-    (turned-between z.variables.now z.first.now z.second.now z.s b.requires.0 l.loop.i l.loop.first l.loop.second l.loop.done l.loop.invariant.1, v.0, v.1)
+    let v = variable_at z.variables.now l.loop-i.i b.requires.1 t.loop-i-test.true in
+    (turned-between z.variables.now z.first-1.now z.second-1.now z.s b.requires.0 l.loop-i.i l.loop-i.first-1 l.loop-i.second-1 l.loop-i.done l.loop-i.invariant.1, v.0, v.1)
 
-loop-again : tie.Need-loop-preserved invariant-loop decreases-loop
+loop-again : tie.Need-loop-i-preserved invariant-loop decreases-loop
 loop-again c =
     let n = c.before.before in
     let t = n.before.before.before.before in
@@ -34,12 +34,12 @@ loop-again c =
     let b = l.before.before in
     let z = b.args in (
       omega arith,
-      turned_more z.variables.now z.first.now z.second.now z.s b.requires.0 l.loop.i l.loop.first l.loop.second l.loop.done l.loop.invariant.1
-          t.loop-test.true _ _ _ n.remove-next.ensures,
+      turned_more z.variables.now z.first-1.now z.second-1.now z.s b.requires.0 l.loop-i.i l.loop-i.first-1 l.loop-i.second-1 l.loop-i.done l.loop-i.invariant.1
+          t.loop-i-test.true _ _ _ n.remove_next-done.ensures,
     )
 
 returns : tie.Need-returns invariant-loop decreases-loop
-returns c = let l = c.before in rw (take_all l.loop.i l.before.before.args.variables.now c.loop-test.false) at l.loop.invariant.1
+returns c = let l = c.before in rw (take_all l.loop-i.i l.before.before.args.variables.now c.loop-i-test.false) at l.loop-i.invariant.1
 
 pub remove_all_spec : {M : Type 1} → statement M
 remove_all_spec =
@@ -47,11 +47,11 @@ remove_all_spec =
     (tie.spec invariant-loop decreases-loop
     loop-holds
     (λ c. search rules)
-    (λ c. omega (arith, c.shared-slice-known2.given c.before.before.before.before.loop.i))
+    (λ c. omega (arith, c.shared_slice_known-in-loop-i-1.given c.before.before.before.before.loop-i.i))
     remove-next-requires
     (λ c. search rules)
     (λ c. search rules)
     loop-again
-    (λ c. c.before.loop.invariant.1.first_touched.long)
-    (λ c. c.before.loop.invariant.1.second_touched.long)
+    (λ c. c.before.loop-i.invariant.1.first_touched.long)
+    (λ c. c.before.loop-i.invariant.1.second_touched.long)
     returns)

@@ -8,31 +8,31 @@ use Rattle.removal.proofs.remove_between.Statement.{statement}
 use Rattle.removal.proofs.remove_between.Tie as tie
 
 -- none of the refusals at once applies
-none : (c : tie.After-enum-told) → (let z = c.before.before.before.before.before.before.args in refused_at_once z.count z.variables.now z.first.now z.second.now ≡ Found)
-none c = sym c.before.before.refused_at_once.ensures ∙ c.enum_told.given.1
+none : (c : tie.In-Found) → (let z = c.before.before.before.before.before.before.args in refused_at_once z.count z.variables.now z.first-1.now z.second-1.now ≡ Found)
+none c = sym c.before.before.refused_at_once-o.ensures ∙ c.enum_told-1.given.1
 
 tidy-requires : tie.Need-tidy-requires
 tidy-requires c κs =
     let r = c.before.before.before.before in
     let t = r.before.before.before in
     let z = t.before.before.before.before.before.before.args in
-    tidy-room z.count z.variables.now z.first.now z.second.now (none t) _ _ _ r.remove-accepted.ensures
+    tidy-room z.count z.variables.now z.first-1.now z.second-1.now (none t) _ _ _ r.remove_accepted-s.ensures
 
-returns : tie.Need-returns
+returns : tie.Need-returns-in-Refused
 returns c =
     let o = c.before.before in
     let r = o.before.before in
     let z = r.before.before.before.before.args in
     rw c.refused.ensures
-    (alone-refused z.count z.variables.now z.first.now z.second.now _ _ r.refused_at_once.ensures o.o.given.1)
+    (alone-refused z.count z.variables.now z.first-1.now z.second-1.now _ _ r.refused_at_once-o.ensures o.o-1.given.1)
 
-returns-2 : tie.Need-returns-2
+returns-2 : tie.Need-returns-in-Found
 returns-2 c =
     let d = c.before.before in
     let r = d.before.before.before.before.before in
     let t = r.before.before.before in
     let z = t.before.before.before.before.before.before.args in
-    alone-found z.count z.variables.now z.first.now z.second.now (none t) _ _ _ r.remove-accepted.ensures _ _ d.tidy.ensures
+    alone-found z.count z.variables.now z.first-1.now z.second-1.now (none t) _ _ _ r.remove_accepted-s.ensures _ _ d.tidy.ensures
 
 pub remove_between_spec : {M : Type 1} → statement M
 remove_between_spec =

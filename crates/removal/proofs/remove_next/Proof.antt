@@ -9,38 +9,38 @@ without-requires c κs =
     let t = c.before.before in
     let b = t.before.before.before in
     let z = b.args in
-    (in_second z.first.now z.second.now z.s b.requires.0 t.before.enum_told.given.1 t.if1.true, b.requires.1, b.requires.2, b.requires.0.first_long)
+    (in_second z.first-1.now z.second-1.now z.s b.requires.0 t.before.enum_told-1.given.1 t.if-s.true, b.requires.1, b.requires.2, b.requires.0.first_long)
 
-without-requires-2 : tie.Need-without-requires-2
+without-requires-2 : tie.Need-without-requires-else-s
 without-requires-2 c κs =
     let t = c.before.before in
     let b = t.before.before.before in
     let z = b.args in
-    (in_first z.first.now z.second.now z.s b.requires.0 t.before.enum_told.given.1 t.if1.false, b.requires.1, b.requires.2, b.requires.0.second_long)
+    (in_first z.first-1.now z.second-1.now z.s b.requires.0 t.before.enum_told-1.given.1 t.if-s.false, b.requires.1, b.requires.2, b.requires.0.second_long)
 
-returns : tie.Need-returns
+returns : tie.Need-returns-in-Refused
 returns c =
     let o = c.before.before in
     let z = o.before.before.args in
-    rw c.refused.ensures (next-refused z.first.now z.second.now z.s z.v _ o.o.given.1)
+    rw c.refused.ensures (next-refused z.first-1.now z.second-1.now z.s z.v _ o.o-1.given.1)
 
-returns-2 : tie.Need-returns-2
+returns-2 : tie.Need-returns-then-s
 returns-2 c =
     let w = c.before.before in
     let t = w.before.before.before in
     let b = t.before.before.before in
     let z = b.args in
     rw c.of.ensures
-    (next-first z.first.now z.second.now z.s z.v b.requires.0 t.before.enum_told.given.1 t.if1.true _ _ w.without.ensures)
+    (next-first z.first-1.now z.second-1.now z.s z.v b.requires.0 t.before.enum_told-1.given.1 t.if-s.true _ _ w.without.ensures)
 
-returns-3 : tie.Need-returns-3
+returns-3 : tie.Need-returns-else-s
 returns-3 c =
     let w = c.before.before in
     let t = w.before.before.before in
     let b = t.before.before.before in
     let z = b.args in
-    rw c.of2.ensures
-    (next-second z.first.now z.second.now z.s z.v b.requires.0 t.before.enum_told.given.1 t.if1.false _ _ w.without2.ensures)
+    rw c.of-else-s.ensures
+    (next-second z.first-1.now z.second-1.now z.s z.v b.requires.0 t.before.enum_told-1.given.1 t.if-s.false _ _ w.without-else-s.ensures)
 
 pub remove_next_spec : {M : Type 1} → statement M
 remove_next_spec =

@@ -11,34 +11,34 @@ use Rattle.removal.proofs.AtOnce.{variable_below, variable_above, variable_is}
 use Rattle.removal.proofs.variables_fit.Statement.{statement}
 use Rattle.removal.proofs.variables_fit.Tie as tie
 
-abbrev invariant-loop : tie.invariant-loop
+abbrev invariant-loop : tie.invariant-loop-i
 invariant-loop variables i₀ i = (i ≤ length variables) × (every is_variable (drop i variables) ≡ every is_variable variables)
 
-abbrev decreases-loop : tie.decreases-loop
+abbrev decreases-loop : tie.decreases-loop-i
 decreases-loop variables i₀ i = length variables - i
 
-returns : tie.Need-returns invariant-loop decreases-loop
+returns : tie.Need-returns-then-v-lt1 invariant-loop decreases-loop
 returns c =
     let t = c.before.before in
     let l = t.before in
-    every_stops is_variable l.before.args.variables.now l.loop.i 0 t.loop-test.true (variable_below _ c.if1.true) ∙ l.loop.invariant.1
+    every_stops is_variable l.before.args.variables.now l.loop-i.i 0 t.loop-i-test.true (variable_below _ c.if-v-lt1.true) ∙ l.loop-i.invariant.1
 
-returns-2 : tie.Need-returns-2 invariant-loop decreases-loop
+returns-2 : tie.Need-returns-then-v-gt15 invariant-loop decreases-loop
 returns-2 c =
     let t = c.before.before.before in
     let l = t.before in
-    every_stops is_variable l.before.args.variables.now l.loop.i 0 t.loop-test.true (variable_above _ c.if2.true) ∙ l.loop.invariant.1
+    every_stops is_variable l.before.args.variables.now l.loop-i.i 0 t.loop-i-test.true (variable_above _ c.if-v-gt15.true) ∙ l.loop-i.invariant.1
 
-loop-again : tie.Need-loop-preserved invariant-loop decreases-loop
+loop-again : tie.Need-loop-i-preserved invariant-loop decreases-loop
 loop-again c =
     let t = c.before.before.before in
     let l = t.before in (
       omega arith,
-      every_turn is_variable l.before.args.variables.now l.loop.i 0 t.loop-test.true (variable_is _ c.before.if1.false c.if2.false) ∙ l.loop.invariant.1,
+      every_turn is_variable l.before.args.variables.now l.loop-i.i 0 t.loop-i-test.true (variable_is _ c.before.if-v-lt1.false c.if-v-gt15.false) ∙ l.loop-i.invariant.1,
     )
 
-returns-3 : tie.Need-returns-3 invariant-loop decreases-loop
-returns-3 c = let l = c.before in every-done is_variable l.before.args.variables.now l.loop.i 0 c.loop-test.false ∙ l.loop.invariant.1
+returns-3 : tie.Need-returns invariant-loop decreases-loop
+returns-3 c = let l = c.before in every-done is_variable l.before.args.variables.now l.loop-i.i 0 c.loop-i-test.false ∙ l.loop-i.invariant.1
 
 pub variables_fit_spec : {M : Type 1} → statement M
 variables_fit_spec =

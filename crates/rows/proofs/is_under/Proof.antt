@@ -7,5 +7,5 @@ pub is_under_spec : {M : Type 1} → statement M
 is_under_spec =
     tie.close
     (tie.spec
-    (λ c. rw (c.if1.true, to_z-of_z c.before.ranges.z))
-    (λ c. rw (c.if1.false, to_z-of_z c.before.ranges.z)))
+    (λ c. rw (c.if-strict.true, to_z-of_z c.before.ranges.z))
+    (λ c. rw (c.if-strict.false, to_z-of_z c.before.ranges.z)))

@@ -11,33 +11,33 @@ use Rattle.sets.proofs.Moving.{clear-more, clear-done}
 use Rattle.sets.proofs.clear_from.Statement.{statement}
 use Rattle.sets.proofs.clear_from.Tie as tie
 
-abbrev invariant-loop : tie.invariant-loop
+abbrev invariant-loop : tie.invariant-loop-i
 invariant-loop s₀ row end i₀ s i = (row * 17 ≤ i) × (i ≤ length s₀ / 17 * 17) × (length s ≡ length s₀) × (s ≡ paste s₀ (row * 17) (drop (row * 17) (zeroed s₀)) (i - row * 17))
 
-abbrev decreases-loop : tie.decreases-loop
+abbrev decreases-loop : tie.decreases-loop-i
 decreases-loop s₀ row end i₀ s i = length s₀ - i
 
-loop-holds : tie.Need-loop-init invariant-loop decreases-loop
+loop-holds : tie.Need-loop-i-init invariant-loop decreases-loop
 loop-holds c =
     let s = c.args.s.now in
     let m = c.args.row * 17 in
     (search rules, omega arith, refl, rw sub_self (paste-zero s m (drop m (zeroed s))))
 
-loop-again : tie.Need-loop-preserved invariant-loop decreases-loop
+loop-again : tie.Need-loop-i-preserved invariant-loop decreases-loop
 loop-again c =
     let l = c.before in
     let z = l.before.args in (
       omega arith,
       omega arith,
-      simp length-set l.loop.invariant.2,
-      clear-more z.s.now l.loop.s (z.row * 17) l.loop.i l.loop.invariant.0 l.loop.invariant.3 (omega arith),
+      simp length-set l.loop-i.invariant.2,
+      clear-more z.s.now l.loop-i.s (z.row * 17) l.loop-i.i l.loop-i.invariant.0 l.loop-i.invariant.3 (omega arith),
     )
 
 returns : tie.Need-returns invariant-loop decreases-loop
 returns c =
     let l = c.before in
     let z = l.before.args in
-    clear-done z.s.now l.loop.s (z.row * 17) l.loop.i l.loop.invariant.0 l.loop.invariant.3 (omega arith)
+    clear-done z.s.now l.loop-i.s (z.row * 17) l.loop-i.i l.loop-i.invariant.0 l.loop-i.invariant.3 (omega arith)
 
 pub clear_from_spec : {M : Type 1} → statement M
 clear_from_spec =
@@ -51,5 +51,5 @@ clear_from_spec =
     (λ c. omega arith)
     (λ c. omega arith)
     loop-again
-    (λ c. c.before.loop.invariant.2)
+    (λ c. c.before.loop-i.invariant.2)
     returns)

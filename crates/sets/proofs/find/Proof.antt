@@ -17,13 +17,13 @@ use Rattle.sets.proofs.Places.{after-below, before_above, place_at, place-standi
 use Rattle.sets.proofs.find.Statement.{statement}
 use Rattle.sets.proofs.find.Tie as tie
 
-abbrev invariant-loop : tie.invariant-loop
+abbrev invariant-loop : tie.invariant-loop-low
 invariant-loop s n x at low₀ high₀ low high =
     (low ≤ high) × (high ≤ n) ×
     ((i : ℕ) → i < low → row_order (row_at x at) (get_or (set_in s n) i empty_row) ≡ After) ×
     ((i : ℕ) → high ≤ i → i < length (set_in s n) → row_order (row_at x at) (get_or (set_in s n) i empty_row) ≡ Before)
 
-abbrev decreases-loop : tie.decreases-loop
+abbrev decreases-loop : tie.decreases-loop-low
 decreases-loop s n x at low₀ high₀ low high = high - low
 
 -- the row, and the set
@@ -34,44 +34,44 @@ abbrev rows : tie.Start invariant-loop decreases-loop → List Row
 rows b = set_in b.args.s.now b.args.n
 
 -- in a turn: the function's beginning, the middle, that it is one of the rows, and how the row stands to it
-abbrev start : tie.After-order-in invariant-loop decreases-loop → tie.Start invariant-loop decreases-loop
+abbrev start : tie.After-order_in-o invariant-loop decreases-loop → tie.Start invariant-loop decreases-loop
 start c = c.before.before.before
 
-abbrev middle : tie.After-order-in invariant-loop decreases-loop → ℕ
-middle c = let l = c.before.before.loop in (l.low + l.high) / 2
+abbrev middle : tie.After-order_in-o invariant-loop decreases-loop → ℕ
+middle c = let l = c.before.before.loop-low in (l.low + l.high) / 2
 
-among : (c : tie.After-order-in invariant-loop decreases-loop) → middle c < length (rows (start c))
+among : (c : tie.After-order_in-o invariant-loop decreases-loop) → middle c < length (rows (start c))
 among c = let l = c.before.before in rw length-rows_at (omega arith)
 
-told : (c : tie.After-order-in invariant-loop decreases-loop) (o : Order) → c.order-in.result ≡ o → row_order (row (start c)) (get_or (rows (start c)) (middle c) empty_row) ≡ o
+told : (c : tie.After-order_in-o invariant-loop decreases-loop) (o : Order) → c.order_in-o.result ≡ o → row_order (row (start c)) (get_or (rows (start c)) (middle c) empty_row) ≡ o
 told c o e =
     let z = (start c).args in
     let m : middle c < z.n = omega arith in
-    rw (getD_rows_at z.s.now 0 z.n (middle c) empty_row m, zero-add) (sym c.order-in.ensures ∙ e)
+    rw (getD_rows_at z.s.now 0 z.n (middle c) empty_row m, zero-add) (sym c.order_in-o.ensures ∙ e)
 
-loop-again : tie.Need-loop-preserved invariant-loop decreases-loop
+loop-again : tie.Need-loop-low-preserved-in-Before invariant-loop decreases-loop
 loop-again c =
     let o = c.before.before in
     let l = o.before.before in
-    (omega arith, omega arith, l.loop.invariant.2, before_above (row (start o)) l.before.requires.0.ordered empty_row (middle o) (among o) (told o Before c.enum_told.given.1))
+    (omega arith, omega arith, l.loop-low.invariant.2, before_above (row (start o)) l.before.requires.0.ordered empty_row (middle o) (among o) (told o Before c.enum_told-1.given.1))
 
-loop-again-2 : tie.Need-loop-preserved-2 invariant-loop decreases-loop
+loop-again-2 : tie.Need-loop-low-preserved invariant-loop decreases-loop
 loop-again-2 c =
     let o = c.before.before in
     let l = o.before.before in
-    (omega arith, omega arith, after-below (row (start o)) l.before.requires.0.ordered empty_row (middle o) (among o) (told o After c.enum-told3.given.1), l.loop.invariant.3)
+    (omega arith, omega arith, after-below (row (start o)) l.before.requires.0.ordered empty_row (middle o) (among o) (told o After c.enum_told-in-After-1.given.1), l.loop-low.invariant.3)
 
-returns : tie.Need-returns invariant-loop decreases-loop
+returns : tie.Need-returns-in-Same invariant-loop decreases-loop
 returns c =
     let o = c.before.before in
-    place-standing (row (start o)) (start o).requires.0.ordered empty_row (middle o) (among o) (told o _ c.enum-told2.given.1)
+    place-standing (row (start o)) (start o).requires.0.ordered empty_row (middle o) (among o) (told o _ c.enum_told-in-Same-1.given.1)
 
-returns-2 : tie.Need-returns-2 invariant-loop decreases-loop
+returns-2 : tie.Need-returns invariant-loop decreases-loop
 returns-2 c =
     let l = c.before in
     let b = l.before in
-    let e : l.loop.high ≡ l.loop.low = omega arith in
-    place_at (row b) (rows b) empty_row l.loop.low (rw length-rows_at (omega arith)) l.loop.invariant.2 (rw e at l.loop.invariant.3)
+    let e : l.loop-low.high ≡ l.loop-low.low = omega arith in
+    place_at (row b) (rows b) empty_row l.loop-low.low (rw length-rows_at (omega arith)) l.loop-low.invariant.2 (rw e at l.loop-low.invariant.3)
 
 pub find_spec : {M : Type 1} → statement M
 find_spec =

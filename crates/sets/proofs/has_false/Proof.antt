@@ -21,15 +21,15 @@ use Rattle.sets.proofs.Places.{behind_last, false-after}
 use Rattle.sets.proofs.has_false.Statement.{statement}
 use Rattle.sets.proofs.has_false.Tie as tie
 
-returns : tie.Need-returns
+returns : tie.Need-returns-then-n-eq0
 unfolding stands_in rows_at
-returns c = rw c.if1.true refl
+returns c = rw c.if-n-eq0.true refl
 
 -- the last row's constant, as it stands in the store
 first_entry : (s : List ℤ) (at : ℕ) → get_or (row_at s at).entries 0 (pos 0) ≡ get_or s at (pos 0)
 first_entry s at = get_d_part 16 at s 0 (lit< tt) ∙ ap (λ (i : ℕ). get_or s i (pos 0)) (add-zero at)
 
-returns-2 : tie.Need-returns-2
+returns-2 : tie.Need-returns-then-s-n-lt1
 returns-2 c =
     let b = c.before.before.before in
     let s = b.args.s.now in
@@ -37,11 +37,11 @@ returns-2 c =
     let m = (n - 1) * 17 in
     let x = get_or s m (pos 0) in
     let some : n - 1 < n = omega arith in
-    let below : x <ℤ pos 1 = lt_z_yes (T_of (rw (back w32 x c.before.if22.given) at c.if2.true)) in
+    let below : x <ℤ pos 1 = lt_z_yes (T_of (rw (back w32 x c.before.t8-1.given) at c.if-s-n-lt1.true)) in
     let last : get_or (set_in s n) (n - 1) empty_row ≡ row_at s m = rw zero-add at (getD_rows_at s 0 n (n - 1) empty_row some) in
     behind_last false_row b.requires.ordered empty_row (n - 1) (omega (arith, length-rows_at s 0 n)) (rw last (false-after (row_at s m) (rw (first_entry s m) below)))
 
-returns-3 : tie.Need-returns-3
+returns-3 : tie.Need-returns
 returns-3 c = rw c.before.falsehood.ensures at c.stands_in.ensures
 
 pub has_false_spec : {M : Type 1} → statement M

@@ -19,22 +19,22 @@ abbrev row : tie.Start → Row
 row b = row_at b.args.x.now b.args.at
 
 -- where the row does not stand there: the function's beginning, the place, and what is known of it
-abbrev start : tie.After-place → tie.Start
+abbrev start : tie.In-At-2 → tie.Start
 start c = c.before.before.before.before
 
-abbrev place : tie.After-place → ℕ
-place c = c.place.given.0.0
+abbrev place : tie.In-At-2 → ℕ
+place c = c.place-1.given.0.0
 
-placed : (c : tie.After-place) → At (place c) ≡ place_of (row (start c)) (set_in (start c).args.s.now (start c).args.n)
-placed c = sym c.place.given.1 ∙ c.before.before.find.ensures
+placed : (c : tie.In-At-2) → At (place c) ≡ place_of (row (start c)) (set_in (start c).args.s-1.now (start c).args.n)
+placed c = sym c.place-1.given.1 ∙ c.before.before.find-place.ensures
 
-within : (c : tie.After-place) → place c ≤ (start c).args.n
-within c = rw length-rows_at at (place-within (row (start c)) (set_in (start c).args.s.now (start c).args.n) (place c) (placed c))
+within : (c : tie.In-At-2) → place c ≤ (start c).args.n
+within c = rw length-rows_at at (place-within (row (start c)) (set_in (start c).args.s-1.now (start c).args.n) (place c) (placed c))
 
-few : (c : tie.Else1) → (start c.before.before).args.n < set_rows
-few c = lt_of_le_of_ne (start c.before.before).requires.0.few c.if1.false
+few : (c : tie.Else-n-eq-ROWS) → (start c.before.before).args.n < set_rows
+few c = lt_of_le_of_ne (start c.before.before).requires.0.few c.if-n-eq-ROWS.false
 
-shift-up-requires : tie.Need-shift-up-requires
+shift-up-requires : tie.Need-shift_up-requires
 shift-up-requires c κs =
     let p = c.before.before.before in
     (within p, omega (arith, few c.before, (start p).requires.0.long), (start p).requires.0.few)
@@ -43,21 +43,21 @@ write-requires : tie.Need-write-requires
 write-requires c κs =
     let e = c.before.before.before.before.before in
     let p = e.before.before in
-    omega (arith, within p, few e, (start p).requires.0.long, c.before.before.s.given)
+    omega (arith, within p, few e, (start p).requires.0.long, c.before.before.s-1.given)
 
-returns : tie.Need-returns
+returns : tie.Need-returns-then-n-eq-ROWS
 returns c =
     let p = c.before.before in
     let b = start p in
-    left_full b.args.s.now b.args.n (row b) b.pre.0 (place p) (placed p) c.if1.true
+    left_full b.args.s-1.now b.args.n (row b) b.pre.0 (place p) (placed p) c.if-n-eq-ROWS.true
 
-returns-2 : tie.Need-returns-2
+returns-2 : tie.Need-returns-in-Standing
 returns-2 c =
     let f = c.before.before in
     let b = f.before.before in
-    left-standing b.args.s.now b.args.n (row b) b.requires.0 (sym c.enum_told.given.1 ∙ f.find.ensures)
+    left-standing b.args.s-1.now b.args.n (row b) b.requires.0 (sym c.enum_told-1.given.1 ∙ f.find-place.ensures)
 
-returns-3 : tie.Need-returns-3
+returns-3 : tie.Need-returns-else-n-eq-ROWS
 returns-3 c =
     let w = c.before in
     let r = w.before.before in
@@ -65,8 +65,8 @@ returns-3 c =
     let e = u.before.before in
     let p = e.before.before in
     let b = start p in
-    left_inserted b.args.s.now b.args.n (row b) b.pre.0 (place p) (placed p) (wide-row_at b.args.x.now b.args.at b.pre.1) (few e) _ _
-    u.shift-up.ensures (rw r.read.ensures at w.write.ensures)
+    left_inserted b.args.s-1.now b.args.n (row b) b.pre.0 (place p) (placed p) (wide-row_at b.args.x.now b.args.at b.pre.1) (few e) _ _
+    u.shift_up.ensures (rw r.read.ensures at w.write.ensures)
 
 pub insert_spec : {M : Type 1} → statement M
 insert_spec =

@@ -13,21 +13,21 @@ use Rattle.sets.proofs.Steps.{ready_start, ready_left, put-progress, put_ready, 
 use Rattle.sets.proofs.join.Statement.{statement}
 use Rattle.sets.proofs.join.Tie as tie
 
-abbrev invariant-loop : tie.invariant-loop
+abbrev invariant-loop : tie.invariant-loop-i
 invariant-loop from at m to₀ n c₀ i₀ to c i =
     (i ≤ m) × (length to ≡ length to₀) × Ready to c × Left (progress to c) to₀ to c ×
     (put_all (rows_at from (at + i * 17) (m - i)) (progress to c) ≡ joined (rows_at from at m) (set_in to₀ n))
 
-abbrev decreases-loop : tie.decreases-loop
+abbrev decreases-loop : tie.decreases-loop-i
 decreases-loop from at m to₀ n c₀ i₀ to c i = m - i
 
-loop-holds : tie.Need-loop-init invariant-loop decreases-loop
+loop-holds : tie.Need-loop-i-init invariant-loop decreases-loop
 loop-holds c =
     let z = c.before.args in
-    let s = z.to.now in
+    let s = z.to-1.now in
     let h = c.before.requires.1 in
     let r = ready_start h in
-    rw c.with.ensures (
+    rw c.with-c.ensures (
       search rules,
       refl,
       r,
@@ -35,31 +35,31 @@ loop-holds c =
       put_all-start z.from.now z.at z.m (set_in s z.n) (rw length-rows_at h.few),
     )
 
-loop-again : tie.Need-loop-preserved invariant-loop decreases-loop
+loop-again : tie.Need-loop-i-preserved invariant-loop decreases-loop
 loop-again c =
     let j = c.before in
     let t = j.before.before in
     let l = t.before in
     let b = l.before.before in
     let z = b.args in
-    let r = row_at z.from.now (z.at + l.loop.i * 17) in
+    let r = row_at z.from.now (z.at + l.loop-i.i * 17) in
     let x = divided_down r in
-    let d = j.join-row.ensures in
+    let d = j.join_row-c.ensures in
     let small = divided_down-small r in
-    let wide = divided_down-wide r (wide-row_at z.from.now (z.at + l.loop.i * 17) (omega (arith, b.requires.0, t.loop-test.true))) in
-    let ready = l.loop.invariant.2 in (
+    let wide = divided_down-wide r (wide-row_at z.from.now (z.at + l.loop-i.i * 17) (omega (arith, b.requires.0, t.loop-i-test.true))) in
+    let ready = l.loop-i.invariant.2 in (
       omega arith,
       search rules,
       put_ready x.fate x.row small wide _ _ _ _ ready d,
-      put-left x.fate x.row small wide _ _ _ _ ready d z.to.now b.requires.1.long l.loop.invariant.3,
-      put_all-row z.from.now z.at z.m l.loop.i t.loop-test.true _ _ (put-progress x.fate x.row small wide _ _ _ _ ready d) ∙ l.loop.invariant.4,
+      put-left x.fate x.row small wide _ _ _ _ ready d z.to-1.now b.requires.1.long l.loop-i.invariant.3,
+      put_all-row z.from.now z.at z.m l.loop-i.i t.loop-i-test.true _ _ (put-progress x.fate x.row small wide _ _ _ _ ready d) ∙ l.loop-i.invariant.4,
     )
 
 returns : tie.Need-returns invariant-loop decreases-loop
 returns c =
     let l = c.before in
     let z = l.before.before.args in
-    rw (← l.loop.invariant.4, put_all-done z.from.now z.at z.m l.loop.i (omega arith) (progress l.loop.to l.loop.c)) l.loop.invariant.3
+    rw (← l.loop-i.invariant.4, put_all-done z.from.now z.at z.m l.loop-i.i (omega arith) (progress l.loop-i.to-1 l.loop-i.c)) l.loop-i.invariant.3
 
 pub join_spec : {M : Type 1} → statement M
 join_spec =
@@ -69,9 +69,9 @@ join_spec =
     loop-holds
     (λ c. omega (arith, c.before.before.before.requires.0))
     (λ c. omega (arith, c.before.before.before.requires.0))
-    (λ c κs. (omega (arith, c.before.before.before.before.requires.0), c.before.before.loop.invariant.2))
+    (λ c κs. (omega (arith, c.before.before.before.before.requires.0), c.before.before.loop-i.invariant.2))
     (λ c. search rules)
     (λ c. search rules)
     loop-again
-    (λ c. c.before.loop.invariant.1)
+    (λ c. c.before.loop-i.invariant.1)
     returns)

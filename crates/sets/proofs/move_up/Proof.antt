@@ -11,33 +11,33 @@ use Rattle.sets.proofs.Moving.{copy_read, copy_more}
 use Rattle.sets.proofs.move_up.Statement.{statement}
 use Rattle.sets.proofs.move_up.Tie as tie
 
-abbrev invariant-loop : tie.invariant-loop
+abbrev invariant-loop : tie.invariant-loop-i
 invariant-loop s₀ at i₀ s i = (i ≤ 17) × (length s ≡ length s₀) × (s ≡ paste s₀ (at + 17) (drop at s₀) i)
 
-abbrev decreases-loop : tie.decreases-loop
+abbrev decreases-loop : tie.decreases-loop-i
 decreases-loop s₀ at i₀ s i = 17 - i
 
-loop-again : tie.Need-loop-preserved invariant-loop decreases-loop
+loop-again : tie.Need-loop-i-preserved invariant-loop decreases-loop
 loop-again c =
     let l = c.before.before in
     let z = l.before.args in
-    let s = z.s.now in
-    let h = c.before.loop-test.true in
+    let s = z.s-1.now in
+    let h = c.before.loop-i-test.true in
     let room = l.before.requires in
-    let is = l.loop.invariant.2 in (
+    let is = l.loop-i.invariant.2 in (
       search rules,
-      simp length-set l.loop.invariant.1,
-      copy_more s l.loop.s z.at 17 l.loop.i h room is _ (back w32 _ c.s.given ∙ copy_read s l.loop.s z.at 17 l.loop.i h room is),
+      simp length-set l.loop-i.invariant.1,
+      copy_more s l.loop-i.s-1 z.at 17 l.loop-i.i h room is _ (back w32 _ c.s-1.given ∙ copy_read s l.loop-i.s-1 z.at 17 l.loop-i.i h room is),
     )
 
 returns : tie.Need-returns invariant-loop decreases-loop
-returns c = let e : c.before.loop.i ≡ 17 = omega arith in rw e at c.before.loop.invariant.2
+returns c = let e : c.before.loop-i.i ≡ 17 = omega arith in rw e at c.before.loop-i.invariant.2
 
 pub move_up_spec : {M : Type 1} → statement M
 move_up_spec =
     tie.close
     (tie.spec invariant-loop decreases-loop
-    (λ c. (search rules, refl, paste-zero c.args.s.now (c.args.at + 17) (drop c.args.at c.args.s.now)))
+    (λ c. (search rules, refl, paste-zero c.args.s-1.now (c.args.at + 17) (drop c.args.at c.args.s-1.now)))
     (λ c. omega arith)
     (λ c. omega arith)
     (λ c. omega arith)
@@ -48,5 +48,5 @@ move_up_spec =
     (λ c. omega arith)
     (λ c. omega arith)
     loop-again
-    (λ c. c.before.loop.invariant.1)
+    (λ c. c.before.loop-i.invariant.1)
     returns)

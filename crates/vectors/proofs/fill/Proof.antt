@@ -6,31 +6,31 @@ use mathlib.Core.Path.{◌≡◌}
 use Rattle.vectors.proofs.fill.Statement.{statement}
 use Rattle.vectors.proofs.fill.Tie as tie
 
-abbrev invariant-loop : tie.invariant-loop
+abbrev invariant-loop : tie.invariant-loop-i
 invariant-loop s₀ x i₀ i-end s i = (i ≤ i-end) × (i-end ≡ length s)
 
-abbrev decreases-loop : tie.decreases-loop
+abbrev decreases-loop : tie.decreases-loop-i
 decreases-loop s₀ x i₀ i-end s i = i-end - i
 
-loop-holds : tie.Need-loop-init invariant-loop decreases-loop
+loop-holds : tie.Need-loop-i-init invariant-loop decreases-loop
 loop-holds c = search rules
 
-mul-x : tie.Need-overflow-mul-x invariant-loop decreases-loop
+mul-x : tie.Need-offset_bounds-s-i invariant-loop decreases-loop
 mul-x c = search rules
 
-slice-set-from-x : tie.Need-slice-set-from-x invariant-loop decreases-loop
+slice-set-from-x : tie.Need-bounds-s-i invariant-loop decreases-loop
 slice-set-from-x c = search rules
 
-add-i : tie.Need-overflow-add-i invariant-loop decreases-loop
+add-i : tie.Need-overflow_step-i invariant-loop decreases-loop
 add-i c = search rules
 
-loop-less : tie.Need-loop-smaller invariant-loop decreases-loop
+loop-less : tie.Need-loop-i-smaller invariant-loop decreases-loop
 loop-less c = search rules
 
-loop-again : tie.Need-loop-preserved invariant-loop decreases-loop
-loop-again c = (search rules, simp length-set c.before.loop.invariant.1)
+loop-again : tie.Need-loop-i-preserved invariant-loop decreases-loop
+loop-again c = (search rules, simp length-set c.before.loop-i.invariant.1)
 
-same_length : tie.Need-same-length invariant-loop decreases-loop
+same_length : tie.Need-shape_of-s invariant-loop decreases-loop
 same_length c = search rules
 
 returns : tie.Need-returns invariant-loop decreases-loop

@@ -7,67 +7,67 @@ use mathlib.Core.Path.{◌≡◌}
 use Rattle.vectors.proofs.print_store.Statement.{statement}
 use Rattle.vectors.proofs.print_store.Tie as tie
 
-abbrev invariant-loop : tie.invariant-loop
+abbrev invariant-loop : tie.invariant-loop-i
 invariant-loop word s start₀ i₀ t5 i-end start i = (i ≤ i-end) × (i-end ≡ length s) × (start ≤ i)
 
-abbrev decreases-loop : tie.decreases-loop
+abbrev decreases-loop : tie.decreases-loop-i
 decreases-loop word s start₀ i₀ t5 i-end start i = i-end - i
 
-write-all-requires : tie.Need-write-all-requires invariant-loop decreases-loop
+write-all-requires : tie.Need-write_all-requires invariant-loop decreases-loop
 write-all-requires c κs = search rules
 
-loop-holds : tie.Need-loop-init invariant-loop decreases-loop
+loop-holds : tie.Need-loop-i-init invariant-loop decreases-loop
 loop-holds c = search rules
 
-mul-if1 : tie.Need-overflow-mul-if1 invariant-loop decreases-loop
+mul-if1 : tie.Need-offset_bounds-s-i invariant-loop decreases-loop
 mul-if1 c = search rules
 
-shared-slice-copy-out-if1 : tie.Need-shared-slice-copy-out-if1 invariant-loop decreases-loop
+shared-slice-copy-out-if1 : tie.Need-bounds-s-i invariant-loop decreases-loop
 shared-slice-copy-out-if1 c = search rules
 
-mul-if1-2 : tie.Need-overflow-mul-if1-2 invariant-loop decreases-loop
+mul-if1-2 : tie.Need-offset_bounds-s-start invariant-loop decreases-loop
 mul-if1-2 c = search rules
 
-shared-slice-copy-out-if1-2 : tie.Need-shared-slice-copy-out-if1-2 invariant-loop decreases-loop
+shared-slice-copy-out-if1-2 : tie.Need-bounds-s-start invariant-loop decreases-loop
 shared-slice-copy-out-if1-2 c = search rules
 
-sub-print-run : tie.Need-overflow-sub-print-run invariant-loop decreases-loop
+sub-print-run : tie.Need-overflow_sub-i invariant-loop decreases-loop
 sub-print-run c = search rules
 
-mul-print-run : tie.Need-overflow-mul-print-run invariant-loop decreases-loop
+mul-print-run : tie.Need-offset_bounds-s-start-then-s-i invariant-loop decreases-loop
 mul-print-run c = search rules
 
-shared-slice-copy-out-print-run : tie.Need-shared-slice-copy-out-print-run invariant-loop decreases-loop
+shared-slice-copy-out-print-run : tie.Need-bounds-s-start-then-s-i invariant-loop decreases-loop
 shared-slice-copy-out-print-run c = search rules
 
-print-run-requires : tie.Need-print-run-requires invariant-loop decreases-loop
+print-run-requires : tie.Need-print_run-requires invariant-loop decreases-loop
 print-run-requires c κs = search rules
 
-add-i : tie.Need-overflow-add-i invariant-loop decreases-loop
+add-i : tie.Need-overflow_step-i invariant-loop decreases-loop
 add-i c = search rules
 
-loop-less : tie.Need-loop-smaller invariant-loop decreases-loop
+loop-less : tie.Need-loop-i-smaller invariant-loop decreases-loop
 loop-less c = search rules
 
-loop-again : tie.Need-loop-preserved invariant-loop decreases-loop
-loop-again c = ⊎_elim (λ w. search rules) (λ w. search rules) c.if1.branch
+loop-again : tie.Need-loop-i-preserved invariant-loop decreases-loop
+loop-again c = ⊎_elim (λ w. search rules) (λ w. search rules) c.if-s-i.branch
 
-sub-print-run-2 : tie.Need-overflow-sub-print-run-2 invariant-loop decreases-loop
+sub-print-run-2 : tie.Need-overflow_sub-s invariant-loop decreases-loop
 sub-print-run-2 c = search rules
 
-mul-print-run-2 : tie.Need-overflow-mul-print-run-2 invariant-loop decreases-loop
+mul-print-run-2 : tie.Need-offset_bounds-s-start-then-start-s invariant-loop decreases-loop
 mul-print-run-2 c = search rules
 
-shared-slice-copy-out-print-run-2 : tie.Need-shared-slice-copy-out-print-run-2 invariant-loop decreases-loop
+shared-slice-copy-out-print-run-2 : tie.Need-bounds-s-start-then-start-s invariant-loop decreases-loop
 shared-slice-copy-out-print-run-2 c = search rules
 
-print-run-requires-2 : tie.Need-print-run-requires-2 invariant-loop decreases-loop
+print-run-requires-2 : tie.Need-print_run-requires-then-start-s invariant-loop decreases-loop
 print-run-requires-2 c κs = search rules
 
 slice-aggregate-write-all : tie.Need-slice-aggregate-write-all invariant-loop decreases-loop
 slice-aggregate-write-all c = search rules
 
-write-all-requires-2 : tie.Need-write-all-requires-2 invariant-loop decreases-loop
+write-all-requires-2 : tie.Need-write_all-requires-2 invariant-loop decreases-loop
 write-all-requires-2 c κs = search rules
 
 returns : tie.Need-returns invariant-loop decreases-loop

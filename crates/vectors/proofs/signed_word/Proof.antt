@@ -6,10 +6,10 @@ use Rattle.vectors.proofs.Signed.{turned-fits, less-fits}
 use Rattle.vectors.proofs.signed_word.Statement.{statement}
 use Rattle.vectors.proofs.signed_word.Tie as tie
 
-sub-result-2 : tie.Need-overflow-sub-result-2
+sub-result-2 : tie.Need-overflow_sub-result-else-n-lt2147483648
 sub-result-2 c = turned-fits (4294967295 - c.before.args.n) (omega arith)
 
-sub-result-3 : tie.Need-overflow-sub-result-3
+sub-result-3 : tie.Need-overflow_sub-result-else-n-lt2147483648-2
 sub-result-3 c = less-fits (4294967295 - c.before.args.n) (omega arith)
 
 pub signed_word_spec : {M : Type 1} → statement M

@@ -4,11 +4,11 @@ use borrow.Author.Tests.{lt-ltb, le-ltb}
 use Rattle.frames.proofs.answers.digit_of.Statement.{statement}
 use Rattle.frames.proofs.answers.digit_of.Tie as tie
 
-returns : tie.Need-returns
-returns c = rw (lt-ltb _ _ c.if1.true)
+returns : tie.Need-returns-then-n-lt10
+returns c = rw (lt-ltb _ _ c.if-n-lt10.true)
 
-returns-2 : tie.Need-returns-2
-returns-2 c = rw (le-ltb _ _ c.if1.false)
+returns-2 : tie.Need-returns
+returns-2 c = rw (le-ltb _ _ c.if-n-lt10.false)
 
 pub digit_of_spec : {M : Type 1} → statement M
 digit_of_spec = tie.close (tie.spec

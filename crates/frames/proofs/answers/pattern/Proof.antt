@@ -16,31 +16,31 @@ use Rattle.frames.proofs.answers.pattern.Statement.{statement}
 use Rattle.frames.proofs.answers.pattern.Tie as tie
 
 -- the number as the machine reads it back, and its sign
-up : (c : tie.After-wide) → (to_z w64 (of_z w64 c.wide.result) +ℤ pos 4294967296 ≡ pos (pattern c.before.before.args.z)) × (pattern c.before.before.args.z < 2 ^ 32)
+up : (c : tie.After-wide-up) → (to_z w64 (of_z w64 c.wide-up.result) +ℤ pos 4294967296 ≡ pos (pattern c.before.before.args.z)) × (pattern c.before.before.args.z < 2 ^ 32)
 up c =
     let s = c.before.before in
     let z = s.args.z in
     let b = to_z-of_z s.ranges.z in
-    let u = up_is z (rw b at c.before.if1.true) s.ranges.z.sfits in
-    let w : to_z w64 (of_z w64 c.wide.result) ≡ z = back w64 c.wide.result c.wide.type-inv ∙ c.wide.ensures ∙ b in
+    let u = up_is z (rw b at c.before.if-z-lt0.true) s.ranges.z.sfits in
+    let w : to_z w64 (of_z w64 c.wide-up.result) ≡ z = back w64 c.wide-up.result c.wide-up.type-inv ∙ c.wide-up.ensures ∙ b in
     (rw w u.0, u.1)
 
-not-below : (c : tie.Else1) → lt_z c.before.args.z (pos 0) ≡ false
-not-below c = rw (to_z-of_z c.before.ranges.z) at c.if1.false
+not-below : (c : tie.Else-z-lt0) → lt_z c.before.args.z (pos 0) ≡ false
+not-below c = rw (to_z-of_z c.before.ranges.z) at c.if-z-lt0.false
 
-add-up : tie.Need-overflow-add-up
+add-up : tie.Need-overflow_add-up
 add-up c = rw (up c).0 (record { sfits = omega (arith, (up c).1) })
 
-cast-result : tie.Need-overflow-cast-result
+cast-result : tie.Need-overflow_cast-result
 cast-result c = let u = up c in rw (u.0, to_z-of_z {w = w64} {z = pos (pattern c.before.before.args.z)} (record { sfits = omega arith })) (tt, omega arith)
 
-returns : tie.Need-returns
+returns : tie.Need-returns-then-z-lt0
 returns c = let u = up c in rw (u.0, to_z-of_z {w = w64} {z = pos (pattern c.before.before.args.z)} (record { sfits = omega arith })) (refl, u.1)
 
-cast-result-2 : tie.Need-overflow-cast-result-2
+cast-result-2 : tie.Need-overflow_cast-result-2
 cast-result-2 c = let s = same-is c.before.args.z (not-below c) c.before.ranges.z.sfits in rw (to_z-of_z c.before.ranges.z) (nonNeg_of c.before.args.z (not-below c), omega arith)
 
-returns-2 : tie.Need-returns-2
+returns-2 : tie.Need-returns
 returns-2 c = rw (to_z-of_z c.before.ranges.z) (same-is c.before.args.z (not-below c) c.before.ranges.z.sfits)
 
 pub pattern_spec : {M : Type 1} → statement M

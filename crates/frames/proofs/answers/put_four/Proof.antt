@@ -6,9 +6,9 @@ use Rattle.frames.proofs.Overwriting.{wrote_then, four_bytes}
 use Rattle.frames.proofs.answers.put_four.Statement.{statement}
 use Rattle.frames.proofs.answers.put_four.Tie as tie
 
-put-two-requires-2 : tie.Need-put-two-requires-2
+put-two-requires-2 : tie.Need-put_two-requires
 unfolding digits_of big_endian
-put-two-requires-2 c κs = let w = c.before.before.before.put_two.ensures in omega arith
+put-two-requires-2 c κs = let w = c.before.before.before.put_two-next.ensures in omega arith
 
 returns : tie.Need-returns
 unfolding digits_of big_endian
@@ -16,7 +16,7 @@ returns c =
     let b = c.before.before in
     let a = b.before.before.before.before in
     let s = a.before.before.before in
-    rw (four_bytes s.args.n) (wrote_then _ _ s.args.at _ _ s.args.to.now _ _ (omega arith) a.put_two.ensures b.put-two2.ensures)
+    rw (four_bytes s.args.n) (wrote_then _ _ s.args.at _ _ s.args.to-1.now _ _ (omega arith) a.put_two-next.ensures b.put_two.ensures)
 
 pub put_four_spec : {M : Type 1} → statement M
 put_four_spec = tie.close (tie.spec

@@ -14,46 +14,46 @@ use Rattle.frames.proofs.Overwriting.{terms_digits, terms-done, Going, going_fir
 use Rattle.frames.proofs.answers.put_terms.Statement.{statement}
 use Rattle.frames.proofs.answers.put_terms.Tie as tie
 
-abbrev invariant-loop : tie.invariant-loop
+abbrev invariant-loop : tie.invariant-loop-i
 invariant-loop to₀ at e next₀ i₀ to next i = (i ≤ 16) × (length to ≡ length to₀) × Going (digits_of (terms_of 0 e)) at to₀ (digits_of (terms_of i (drop i e))) next to
 
-abbrev decreases-loop : tie.decreases-loop
+abbrev decreases-loop : tie.decreases-loop-i
 decreases-loop to₀ at e next₀ i₀ to next i = 16 - i
 
 long : (c : tie.Start invariant-loop decreases-loop) → length c.args.t3 ≡ 16
 long c = search rules
 
 -- the entry that a turn looks at, its digits, and those that come after
-module _ (l : tie.At-loop invariant-loop decreases-loop) where
+module _ (l : tie.At-loop-i invariant-loop decreases-loop) where
   abbrev e : List ℤ
   e = l.before.before.args.t3
 
   abbrev z : ℤ
-  z = get_or e l.loop.i (pos 0)
+  z = get_or e l.loop-i.i (pos 0)
 
-  now-digits : l.loop.i < 16 → Going (digits_of (terms_of 0 e)) l.before.before.args.at l.before.before.args.to.now
-      (digits_of (term_bytes l.loop.i z) ++ digits_of (terms_of (l.loop.i + 1) (drop (l.loop.i + 1) e))) l.loop.next l.loop.to
-  now-digits h = rw (terms_digits e l.loop.i (omega (arith, long l.before.before))) at l.loop.inv.2
+  now-digits : l.loop-i.i < 16 → Going (digits_of (terms_of 0 e)) l.before.before.args.at l.before.before.args.to-1.now
+      (digits_of (term_bytes l.loop-i.i z) ++ digits_of (terms_of (l.loop-i.i + 1) (drop (l.loop-i.i + 1) e))) l.loop-i.next l.loop-i.to-1
+  now-digits h = rw (terms_digits e l.loop-i.i (omega (arith, long l.before.before))) at l.loop-i.inv.2
 
-put-term-requires : tie.Need-put-term-requires invariant-loop decreases-loop
+put-term-requires : tie.Need-put_term-next-requires invariant-loop decreases-loop
 put-term-requires c κs =
     let l = c.before.before.before in
-    let h : l.loop.i < 16 = omega arith in
+    let h : l.loop-i.i < 16 = omega arith in
     let g = now-digits l h in
-    rw (back w32 (z l) c.put-term-arg2.given)
-    (h, omega (arith, g.place, g.long, l.before.before.requires, length-append (digits_of (term_bytes l.loop.i (z l))) (digits_of (terms_of (l.loop.i + 1) (drop (l.loop.i + 1) (e l))))))
+    rw (back w32 (z l) c.put_term-arg-in-loop-i-1.given)
+    (h, omega (arith, g.place, g.long, l.before.before.requires, length-append (digits_of (term_bytes l.loop-i.i (z l))) (digits_of (terms_of (l.loop-i.i + 1) (drop (l.loop-i.i + 1) (e l))))))
 
-loop-holds : tie.Need-loop-init invariant-loop decreases-loop
+loop-holds : tie.Need-loop-i-init invariant-loop decreases-loop
 loop-holds c = (search rules, refl, going_first _ _ _)
 
-loop-again : tie.Need-loop-preserved invariant-loop decreases-loop
+loop-again : tie.Need-loop-i-preserved invariant-loop decreases-loop
 loop-again c =
     let t = c.before.before in
     let l = t.before.before.before.before in
     let s = l.before.before in
-    let h : l.loop.i < 16 = omega arith in
-    let w = rw (back w32 (z l) t.before.put-term-arg2.given) at t.put-term.ensures in
-    let g = going_on _ s.args.at s.args.to.now (digits_of (term_bytes l.loop.i (z l))) (digits_of (terms_of (l.loop.i + 1) (drop (l.loop.i + 1) (e l)))) _ _ _ _ s.requires (now-digits l h) w in
+    let h : l.loop-i.i < 16 = omega arith in
+    let w = rw (back w32 (z l) t.before.put_term-arg-in-loop-i-1.given) at t.put_term-next.ensures in
+    let g = going_on _ s.args.at s.args.to-1.now (digits_of (term_bytes l.loop-i.i (z l))) (digits_of (terms_of (l.loop-i.i + 1) (drop (l.loop-i.i + 1) (e l)))) _ _ _ _ s.requires (now-digits l h) w in
     (omega arith, g.long, g)
 
 returns : tie.Need-returns invariant-loop decreases-loop
@@ -61,7 +61,7 @@ unfolding digits_of
 returns c =
     let l = c.before in
     let s = l.before.before in
-    going_end _ s.args.at s.args.to.now l.loop.next l.loop.to (rw (terms-done (e l) l.loop.i (omega (arith, long s))) at l.loop.invariant.2)
+    going_end _ s.args.at s.args.to-1.now l.loop-i.next l.loop-i.to-1 (rw (terms-done (e l) l.loop-i.i (omega (arith, long s))) at l.loop-i.invariant.2)
 
 pub put_terms_spec : {M : Type 1} → statement M
 put_terms_spec =

@@ -15,30 +15,30 @@ use Rattle.frames.proofs.answers.term_number.Tie as tie
 zero-plus : (n : ℕ) → 0 + n ≡ n
 zero-plus n = omega arith
 
-abbrev invariant-loop : tie.invariant-loop
+abbrev invariant-loop : tie.invariant-loop-i
 invariant-loop e n₀ i₀ n i = (i ≤ 16) × (n ≤ i) × (n + term_number (drop i e) ≡ term_number e)
 
-abbrev decreases-loop : tie.decreases-loop
+abbrev decreases-loop : tie.decreases-loop-i
 decreases-loop e n₀ i₀ n i = 16 - i
 
 long : (c : tie.Start invariant-loop decreases-loop) → length c.args.t1 ≡ 16
 long c = search rules
 
-loop-holds : tie.Need-loop-init invariant-loop decreases-loop
+loop-holds : tie.Need-loop-i-init invariant-loop decreases-loop
 loop-holds c = (search rules, search rules, zero-plus _)
 
-loop-again : tie.Need-loop-preserved invariant-loop decreases-loop
+loop-again : tie.Need-loop-i-preserved invariant-loop decreases-loop
 loop-again c =
     let l = c.before.before.before in
     let e = l.before.args.t1 in
-    let z = get_or e l.loop.i (pos 0) in
-    let is = rw (back w32 z c.before.counted-arg.given) at c.counted.ensures.0 in
-    (search rules, omega (arith, c.counted.ensures.1), rw is (number_turn e l.loop.i l.loop.n (omega (arith, long l.before))) ∙ l.loop.invariant.2)
+    let z = get_or e l.loop-i.i (pos 0) in
+    let is = rw (back w32 z c.before.counted-arg-1.given) at c.counted-n.ensures.0 in
+    (search rules, omega (arith, c.counted-n.ensures.1), rw is (number_turn e l.loop-i.i l.loop-i.n (omega (arith, long l.before))) ∙ l.loop-i.invariant.2)
 
 returns : tie.Need-returns invariant-loop decreases-loop
 returns c =
     let l = c.before in
-    (number-done l.before.args.t1 l.loop.i l.loop.n (omega (arith, long l.before)) ∙ l.loop.invariant.2, omega arith)
+    (number-done l.before.args.t1 l.loop-i.i l.loop-i.n (omega (arith, long l.before)) ∙ l.loop-i.invariant.2, omega arith)
 
 pub term_number_spec : {M : Type 1} → statement M
 term_number_spec =

@@ -12,19 +12,19 @@ use Rattle.frames.proofs.digits.as_signed.Statement.{statement}
 use Rattle.frames.proofs.digits.as_signed.Tie as tie
 
 -- what the code subtracts, as the machine has it
-less : (c : tie.Else1) → to_z w64 c.before.args.n -ℤ pos 4294967296 ≡ negsuc (2 ^ 32 - suc c.before.args.n)
-less c = rw (to_z_pos w64 {n = c.before.args.n} (omega arith)) (below c.before.args.n c.if1.false c.before.requires)
+less : (c : tie.Else-n-lt2147483648) → to_z w64 c.before.args.n -ℤ pos 4294967296 ≡ negsuc (2 ^ 32 - suc c.before.args.n)
+less c = rw (to_z_pos w64 {n = c.before.args.n} (omega arith)) (below c.before.args.n c.if-n-lt2147483648.false c.before.requires)
 
-sub-result : tie.Need-overflow-sub-result
+sub-result : tie.Need-overflow_sub-result
 sub-result c = rw (less c) (record { sfits = omega arith })
 
-cast-result-2 : tie.Need-overflow-cast-result-2
+cast-result-2 : tie.Need-overflow_cast-result-2
 cast-result-2 c = rw (less c, to_z-of_z {w = w64} {z = negsuc (2 ^ 32 - suc c.before.args.n)} (record { sfits = omega arith })) (record { sfits = omega arith })
 
-returns-2 : tie.Need-returns-2
+returns-2 : tie.Need-returns
 returns-2 c =
     let z = negsuc (2 ^ 32 - suc c.before.args.n) in
-    rw (less c, to_z-of_z {w = w64} {z = z} (record { sfits = omega arith }), to_z-of_z {w = w32} {z = z} (record { sfits = omega arith })) (sym (signed_below c.before.args.n c.if1.false c.before.requires))
+    rw (less c, to_z-of_z {w = w64} {z = z} (record { sfits = omega arith }), to_z-of_z {w = w32} {z = z} (record { sfits = omega arith })) (sym (signed_below c.before.args.n c.if-n-lt2147483648.false c.before.requires))
 
 pub as_signed_spec : {M : Type 1} → statement M
 as_signed_spec =

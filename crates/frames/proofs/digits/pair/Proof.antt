@@ -7,29 +7,29 @@ use Rattle.frames.proofs.Pairs.{digit-below, is-foreign, is-value}
 use Rattle.frames.proofs.digits.pair.Statement.{statement}
 use Rattle.frames.proofs.digits.pair.Tie as tie
 
-returns : tie.Need-returns
+returns : tie.Need-returns-then-high-gt15
 unfolding pair and_then
 returns c =
     let s = c.before.before.before in
-    let h = c.before.before.digit.ensures in
+    let h = c.before.before.digit-high.ensures in
     rw (is-foreign 16 (digit-below s.args.c) (omega arith))
 
-returns-2 : tie.Need-returns-2
+returns-2 : tie.Need-returns-then-low-gt15
 unfolding pair and_then
 returns-2 c =
     let d = c.before.before in
     let s = d.before.before in
-    let h = d.before.digit.ensures in
-    let k = d.digit2.ensures in
+    let h = d.before.digit-high.ensures in
+    let k = d.digit-low.ensures in
     rw (is-value 16 (digit-below s.args.c) (omega arith), is-foreign 16 (digit-below s.args.d) (omega arith))
 
-returns-3 : tie.Need-returns-3
+returns-3 : tie.Need-returns
 unfolding pair and_then
 returns-3 c =
     let d = c.before.before in
     let s = d.before.before in
-    let h = d.before.digit.ensures in
-    let k = d.digit2.ensures in
+    let h = d.before.digit-high.ensures in
+    let k = d.digit-low.ensures in
     rw (is-value 16 (digit-below s.args.c) (omega arith), is-value 16 (digit-below s.args.d) (omega arith)) (omega arith)
 
 pub pair_spec : {M : Type 1} → statement M

@@ -18,39 +18,39 @@ use Rattle.frames.proofs.frames.coefficients_fit.Tie as tie
 abbrev test : List ℕ → ℕ → Bool
 test b i = coefficient_fits (term_coefficient b i)
 
-abbrev invariant-loop : tie.invariant-loop
+abbrev invariant-loop : tie.invariant-loop-i
 invariant-loop b i₀ i-end i = (i ≤ i-end) × (every (test b) (drop i (from 0 (term_count b))) ≡ every (test b) (from 0 (term_count b)))
 
-abbrev decreases-loop : tie.decreases-loop
+abbrev decreases-loop : tie.decreases-loop-i
 decreases-loop b i₀ i-end i = i-end - i
 
-abbrev b : tie.At-loop invariant-loop decreases-loop → List ℕ
+abbrev b : tie.At-loop-i invariant-loop decreases-loop → List ℕ
 b l = l.before.before.before.args.b.now
 
-read : (c : tie.After-coefficient-fits invariant-loop decreases-loop) → let l = c.before.before.before in c.coefficient_fits.result ≡ test (b l) l.loop.i
+read : (c : tie.After-coefficient_fits invariant-loop decreases-loop) → let l = c.before.before.before in c.coefficient_fits.result ≡ test (b l) l.loop-i.i
 read c = let t = c.before.term_coefficient in rw (back w32 t.result t.type-inv, t.ensures) at c.coefficient_fits.ensures
 
-loop-holds : tie.Need-loop-init invariant-loop decreases-loop
+loop-holds : tie.Need-loop-i-init invariant-loop decreases-loop
 loop-holds c = (search rules, refl)
 
-returns : tie.Need-returns invariant-loop decreases-loop
+returns : tie.Need-returns-then-not-coefficient_fits invariant-loop decreases-loop
 returns c =
     let l = c.before.before.before.before in
-    count_stops (test (b l)) (term_count (b l)) l.loop.i (omega (arith, l.before.term_count.ensures))
-    (sym (read c.before) ∙ not-true c.before.coefficient_fits.result c.if1.true) ∙ l.loop.invariant.1
+    count_stops (test (b l)) (term_count (b l)) l.loop-i.i (omega (arith, l.before.term_count-i-end.ensures))
+    (sym (read c.before) ∙ not-true c.before.coefficient_fits.result c.if-not-coefficient_fits.true-raw) ∙ l.loop-i.invariant.1
 
-loop-again : tie.Need-loop-preserved invariant-loop decreases-loop
+loop-again : tie.Need-loop-i-preserved invariant-loop decreases-loop
 loop-again c =
     let l = c.before.before.before.before in (
       search rules,
-      count_turn (test (b l)) (term_count (b l)) l.loop.i (omega (arith, l.before.term_count.ensures))
-          (sym (read c.before) ∙ not-false c.before.coefficient_fits.result c.if1.false) ∙ l.loop.invariant.1,
+      count_turn (test (b l)) (term_count (b l)) l.loop-i.i (omega (arith, l.before.term_count-i-end.ensures))
+          (sym (read c.before) ∙ not-false c.before.coefficient_fits.result c.if-not-coefficient_fits.false-raw) ∙ l.loop-i.invariant.1,
     )
 
-returns-2 : tie.Need-returns-2 invariant-loop decreases-loop
+returns-2 : tie.Need-returns invariant-loop decreases-loop
 returns-2 c =
     let l = c.before in
-    count-done (test (b l)) (term_count (b l)) l.loop.i (omega (arith, l.before.term_count.ensures)) ∙ l.loop.invariant.1
+    count-done (test (b l)) (term_count (b l)) l.loop-i.i (omega (arith, l.before.term_count-i-end.ensures)) ∙ l.loop-i.invariant.1
 
 pub coefficients_fit_spec : {M : Type 1} → statement M
 coefficients_fit_spec =

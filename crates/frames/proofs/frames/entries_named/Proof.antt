@@ -18,42 +18,42 @@ use Rattle.frames.proofs.frames.entries_named.Tie as tie
 abbrev test : Header → List ℕ → ℕ → Bool
 test h b i = entry_declared h (get_or b 0 0) (term_entry b i)
 
-abbrev invariant-loop : tie.invariant-loop
+abbrev invariant-loop : tie.invariant-loop-i
 invariant-loop b h kind i₀ i-end i = (i ≤ i-end) × (every (test h b) (drop i (from 0 (term_count b))) ≡ every (test h b) (from 0 (term_count b)))
 
-abbrev decreases-loop : tie.decreases-loop
+abbrev decreases-loop : tie.decreases-loop-i
 decreases-loop b h kind i₀ i-end i = i-end - i
 
-abbrev b : tie.At-loop invariant-loop decreases-loop → List ℕ
+abbrev b : tie.At-loop-i invariant-loop decreases-loop → List ℕ
 b l = l.before.before.before.before.args.b.now
 
-abbrev h : tie.At-loop invariant-loop decreases-loop → Header
+abbrev h : tie.At-loop-i invariant-loop decreases-loop → Header
 h l = l.before.before.before.before.args.h
 
-read : (c : tie.After-entry-declared invariant-loop decreases-loop) → let l = c.before.before.before in c.entry_declared.result ≡ test (h l) (b l) l.loop.i
+read : (c : tie.After-entry_declared invariant-loop decreases-loop) → let l = c.before.before.before in c.entry_declared.result ≡ test (h l) (b l) l.loop-i.i
 read c = rw c.before.term_entry.ensures.0 at c.entry_declared.ensures
 
-loop-holds : tie.Need-loop-init invariant-loop decreases-loop
+loop-holds : tie.Need-loop-i-init invariant-loop decreases-loop
 loop-holds c = (search rules, refl)
 
-returns : tie.Need-returns invariant-loop decreases-loop
+returns : tie.Need-returns-then-not-entry_declared invariant-loop decreases-loop
 returns c =
     let l = c.before.before.before.before in
-    count_stops (test (h l) (b l)) (term_count (b l)) l.loop.i (omega (arith, l.before.term_count.ensures))
-    (sym (read c.before) ∙ not-true c.before.entry_declared.result c.if1.true) ∙ l.loop.invariant.1
+    count_stops (test (h l) (b l)) (term_count (b l)) l.loop-i.i (omega (arith, l.before.term_count-i-end.ensures))
+    (sym (read c.before) ∙ not-true c.before.entry_declared.result c.if-not-entry_declared.true-raw) ∙ l.loop-i.invariant.1
 
-loop-again : tie.Need-loop-preserved invariant-loop decreases-loop
+loop-again : tie.Need-loop-i-preserved invariant-loop decreases-loop
 loop-again c =
     let l = c.before.before.before.before in (
       search rules,
-      count_turn (test (h l) (b l)) (term_count (b l)) l.loop.i (omega (arith, l.before.term_count.ensures))
-          (sym (read c.before) ∙ not-false c.before.entry_declared.result c.if1.false) ∙ l.loop.invariant.1,
+      count_turn (test (h l) (b l)) (term_count (b l)) l.loop-i.i (omega (arith, l.before.term_count-i-end.ensures))
+          (sym (read c.before) ∙ not-false c.before.entry_declared.result c.if-not-entry_declared.false-raw) ∙ l.loop-i.invariant.1,
     )
 
-returns-2 : tie.Need-returns-2 invariant-loop decreases-loop
+returns-2 : tie.Need-returns invariant-loop decreases-loop
 returns-2 c =
     let l = c.before in
-    count-done (test (h l) (b l)) (term_count (b l)) l.loop.i (omega (arith, l.before.term_count.ensures)) ∙ l.loop.invariant.1
+    count-done (test (h l) (b l)) (term_count (b l)) l.loop-i.i (omega (arith, l.before.term_count-i-end.ensures)) ∙ l.loop-i.invariant.1
 
 pub entries_named_spec : {M : Type 1} → statement M
 entries_named_spec =

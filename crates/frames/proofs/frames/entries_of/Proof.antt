@@ -14,45 +14,45 @@ use Rattle.frames.proofs.Counting.{term_more}
 use Rattle.frames.proofs.frames.entries_of.Statement.{statement}
 use Rattle.frames.proofs.frames.entries_of.Tie as tie
 
-abbrev invariant-loop : tie.invariant-loop
+abbrev invariant-loop : tie.invariant-loop-i
 invariant-loop b to₀ i₀ to i = (i ≤ term_count b) × (length to ≡ 16) × (to ≡ entries_of b (from i (term_count b - i)))
 
-abbrev decreases-loop : tie.decreases-loop
+abbrev decreases-loop : tie.decreases-loop-i
 decreases-loop b to₀ i₀ to i = i
 
 -- a term's entry is one of the sixteen
-entry-within : (c : tie.After-term-entry invariant-loop decreases-loop) → c.term_entry.result < 16
+entry-within : (c : tie.After-term_entry-e invariant-loop decreases-loop) → c.term_entry-e.result < 16
 entry-within c =
     let l = c.before.before in
-    omega (arith, l.before.before.before.requires.1 (l.loop.i - 1) (omega arith))
+    omega (arith, l.before.before.before.requires.1 (l.loop-i.i - 1) (omega arith))
 
-loop-holds : tie.Need-loop-init invariant-loop decreases-loop
+loop-holds : tie.Need-loop-i-init invariant-loop decreases-loop
 unfolding entries_of
 loop-holds c =
     let n = term_count c.before.before.args.b.now in
-    (search rules, refl, rw (c.term_count.ensures, sub_self n))
+    (search rules, refl, rw (c.term_count-i.ensures, sub_self n))
 
-loop-again : tie.Need-loop-preserved invariant-loop decreases-loop
+loop-again : tie.Need-loop-i-preserved invariant-loop decreases-loop
 loop-again c =
     let l = c.before.before.before in
     let t = c.term_coefficient in
     let s = l.before.before.before in
     let b = s.args.b.now in
     let n = term_count b in
-    let h : l.loop.i - 1 < n = omega arith in
-    let e : l.loop.i - 1 + 1 ≡ l.loop.i = omega arith in
-    let in_row = s.requires.1 (l.loop.i - 1) h in (
+    let h : l.loop-i.i - 1 < n = omega arith in
+    let e : l.loop-i.i - 1 + 1 ≡ l.loop-i.i = omega arith in
+    let in_row = s.requires.1 (l.loop-i.i - 1) h in (
       omega arith,
-      simp length-set l.loop.invariant.1,
-      rw (back w32 t.result t.type-inv, t.ensures, c.before.term_entry.ensures.0, term_more b n (l.loop.i - 1) h, e, ← l.loop.invariant.2)
-          (sym (with-set (term_entry b (l.loop.i - 1)) (term_coefficient b (l.loop.i - 1)) l.loop.to (rw l.loop.invariant.1 in_row))),
+      simp length-set l.loop-i.invariant.1,
+      rw (back w32 t.result t.type-inv, t.ensures, c.before.term_entry-e.ensures.0, term_more b n (l.loop-i.i - 1) h, e, ← l.loop-i.invariant.2)
+          (sym (with-set (term_entry b (l.loop-i.i - 1)) (term_coefficient b (l.loop-i.i - 1)) l.loop-i.to (rw l.loop-i.invariant.1 in_row))),
     )
 
 returns : tie.Need-returns invariant-loop decreases-loop
 returns c =
     let l = c.before in
-    let e : l.loop.i ≡ 0 = omega arith in
-    rw (e, sub-zero) at l.loop.invariant.2
+    let e : l.loop-i.i ≡ 0 = omega arith in
+    rw (e, sub-zero) at l.loop-i.invariant.2
 
 pub entries_of_spec : {M : Type 1} → statement M
 entries_of_spec =

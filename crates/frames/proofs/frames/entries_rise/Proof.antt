@@ -18,42 +18,42 @@ use Rattle.frames.proofs.frames.entries_rise.Tie as tie
 abbrev test : List ℕ → ℕ → Bool
 test b i = ltb (term_entry b i) (term_entry b (suc i))
 
-abbrev invariant-loop : tie.invariant-loop
+abbrev invariant-loop : tie.invariant-loop-i
 invariant-loop b n i₀ i-end i = (i ≤ i-end) × (every (test b) (drop i (from 0 (term_count b - 1))) ≡ every (test b) (from 0 (term_count b - 1)))
 
-abbrev decreases-loop : tie.decreases-loop
+abbrev decreases-loop : tie.decreases-loop-i
 decreases-loop b n i₀ i-end i = i-end - i
 
-abbrev b : tie.At-loop invariant-loop decreases-loop → List ℕ
+abbrev b : tie.At-loop-i invariant-loop decreases-loop → List ℕ
 b l = l.before.before.before.args.b.now
 
-loop-holds : tie.Need-loop-init invariant-loop decreases-loop
+loop-holds : tie.Need-loop-i-init invariant-loop decreases-loop
 loop-holds c = (search rules, refl)
 
-returns : tie.Need-returns invariant-loop decreases-loop
+returns : tie.Need-returns-then-term_entry invariant-loop decreases-loop
 unfolding entries_rise
 returns c =
     let t = c.before in
     let l = t.before.before.before in
     let e = rw add-one at t.before.term_entry.ensures.0 in
-    count_stops (test (b l)) (term_count (b l) - 1) l.loop.i (omega (arith, l.before.term_count.ensures))
-    (le-ltb _ _ (rw (e, t.term-entry2.ensures.0) at c.if1.true)) ∙ l.loop.invariant.1
+    count_stops (test (b l)) (term_count (b l) - 1) l.loop-i.i (omega (arith, l.before.term_count-n.ensures))
+    (le-ltb _ _ (rw (e, t.term_entry-in-loop-i.ensures.0) at c.if-term_entry.true)) ∙ l.loop-i.invariant.1
 
-loop-again : tie.Need-loop-preserved invariant-loop decreases-loop
+loop-again : tie.Need-loop-i-preserved invariant-loop decreases-loop
 loop-again c =
     let t = c.before in
     let l = t.before.before.before in
     let e = rw add-one at t.before.term_entry.ensures.0 in (
       search rules,
-      count_turn (test (b l)) (term_count (b l) - 1) l.loop.i (omega (arith, l.before.term_count.ensures))
-          (lt-ltb _ _ (rw (e, t.term-entry2.ensures.0) at c.if1.false)) ∙ l.loop.invariant.1,
+      count_turn (test (b l)) (term_count (b l) - 1) l.loop-i.i (omega (arith, l.before.term_count-n.ensures))
+          (lt-ltb _ _ (rw (e, t.term_entry-in-loop-i.ensures.0) at c.if-term_entry.false)) ∙ l.loop-i.invariant.1,
     )
 
-returns-2 : tie.Need-returns-2 invariant-loop decreases-loop
+returns-2 : tie.Need-returns invariant-loop decreases-loop
 unfolding entries_rise
 returns-2 c =
     let l = c.before in
-    count-done (test (b l)) (term_count (b l) - 1) l.loop.i (omega (arith, l.before.term_count.ensures)) ∙ l.loop.invariant.1
+    count-done (test (b l)) (term_count (b l) - 1) l.loop-i.i (omega (arith, l.before.term_count-n.ensures)) ∙ l.loop-i.invariant.1
 
 pub entries_rise_spec : {M : Type 1} → statement M
 entries_rise_spec =

@@ -14,15 +14,15 @@ use Rattle.frames.specs.Hex.{word, signed}
 use Rattle.frames.proofs.frames.numerator.Statement.{statement}
 use Rattle.frames.proofs.frames.numerator.Tie as tie
 
-returns : tie.Need-returns
+returns : tie.Need-returns-then-i-parameters
 returns c =
     let w = c.word in
     let s = c.before.before.before in
     let b = s.args.b.now in
     let e : s.args.i * 4 + 4 ≡ (1 + s.args.i) * 4 = omega arith in
-    back w32 w.result w.type-inv ∙ (rw e at w.ensures) ∙ sym (at-counted (λ j. signed (word b (j * 4))) 1 s.args.h.parameters s.args.i c.before.if1.true)
+    back w32 w.result w.type-inv ∙ (rw e at w.ensures) ∙ sym (at-counted (λ j. signed (word b (j * 4))) 1 s.args.h.parameters s.args.i c.before.if-i-parameters.true)
 
-returns-2 : tie.Need-returns-2
+returns-2 : tie.Need-returns
 returns-2 c =
     let s = c.before.before in
     let b = s.args.b.now in

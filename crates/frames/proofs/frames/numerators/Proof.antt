@@ -14,23 +14,23 @@ use Rattle.frames.specs.Reading.{reference_of}
 use Rattle.frames.proofs.frames.numerators.Statement.{statement}
 use Rattle.frames.proofs.frames.numerators.Tie as tie
 
-abbrev invariant-loop : tie.invariant-loop
+abbrev invariant-loop : tie.invariant-loop-i
 invariant-loop b h to₀ i₀ to i = (i ≤ 8) × (to ≡ front (λ k. at (drop 1 (reference_of h b)) k) i (replicate 8 (pos 0)))
 
-abbrev decreases-loop : tie.decreases-loop
+abbrev decreases-loop : tie.decreases-loop-i
 decreases-loop b h to₀ i₀ to i = 8 - i
 
-loop-holds : tie.Need-loop-init invariant-loop decreases-loop
+loop-holds : tie.Need-loop-i-init invariant-loop decreases-loop
 loop-holds c = (search rules, front-none _ _)
 
-loop-again : tie.Need-loop-preserved invariant-loop decreases-loop
-loop-again c = let n = c.numerator in (search rules, front-more _ _ _ _ _ c.before.before.loop.invariant.1 (back w32 n.result n.type-inv ∙ n.ensures))
+loop-again : tie.Need-loop-i-preserved invariant-loop decreases-loop
+loop-again c = let n = c.numerator in (search rules, front-more _ _ _ _ _ c.before.before.loop-i.invariant.1 (back w32 n.result n.type-inv ∙ n.ensures))
 
 returns : tie.Need-returns invariant-loop decreases-loop
 returns c =
     let l = c.before in
-    let e : l.loop.i ≡ 8 = omega arith in
-    rw (l.loop.invariant.1, e, front-padded 8 (drop 1 (reference_of l.before.before.args.h l.before.before.args.b.now)) (replicate 8 (pos 0)) refl)
+    let e : l.loop-i.i ≡ 8 = omega arith in
+    rw (l.loop-i.invariant.1, e, front-padded 8 (drop 1 (reference_of l.before.before.args.h l.before.before.args.b.now)) (replicate 8 (pos 0)) refl)
 
 pub numerators_spec : {M : Type 1} → statement M
 numerators_spec =

@@ -4,7 +4,7 @@ use Rattle.frames.proofs.frames.row_of.Statement.{statement}
 use Rattle.frames.proofs.frames.row_of.Tie as tie
 
 returns : tie.Need-returns
-returns c = rw c.before.before.before.entries_of.ensures
+returns c = rw c.before.before.before.entries_of-entries.ensures
 
 pub row_of_spec : {M : Type 1} → statement M
 row_of_spec =

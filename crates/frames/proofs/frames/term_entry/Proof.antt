@@ -6,11 +6,11 @@ use borrow.Author.Rules.{rules}
 use Rattle.frames.proofs.frames.term_entry.Statement.{statement}
 use Rattle.frames.proofs.frames.term_entry.Tie as tie
 
-cast-result : tie.Need-overflow-cast-result
-cast-result c = omega (arith, c.shared-slice-known.given (4 + c.before.args.i * 5))
+cast-result : tie.Need-overflow_cast-result
+cast-result c = omega (arith, c.shared_slice_known-1.given (4 + c.before.args.i * 5))
 
 returns : tie.Need-returns
-returns c = (refl, omega (arith, c.shared-slice-known.given (4 + c.before.args.i * 5)))
+returns c = (refl, omega (arith, c.shared_slice_known-1.given (4 + c.before.args.i * 5)))
 
 pub term_entry_spec : {M : Type 1} → statement M
 term_entry_spec =

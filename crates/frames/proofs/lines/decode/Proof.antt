@@ -15,56 +15,56 @@ use Rattle.frames.proofs.Decoding.{Going, going_none, going_more, going_ends, pa
 use Rattle.frames.proofs.lines.decode.Statement.{statement}
 use Rattle.frames.proofs.lines.decode.Tie as tie
 
-abbrev invariant-loop : tie.invariant-loop
+abbrev invariant-loop : tie.invariant-loop-at
 invariant-loop input from to₀ at₀ n₀ to at n = (at ≤ length input) × (n ≤ at) × (length to ≡ 1280) × Going (drop from input) (drop at input) to n
 
-abbrev decreases-loop : tie.decreases-loop
+abbrev decreases-loop : tie.decreases-loop-at
 decreases-loop input from to₀ at₀ n₀ to at n = length input - at
 
-abbrev input : tie.At-loop invariant-loop decreases-loop → List ℕ
+abbrev input : tie.At-loop-at invariant-loop decreases-loop → List ℕ
 input l = l.before.before.before.args.input.now
 
-loop-holds : tie.Need-loop-init invariant-loop decreases-loop
+loop-holds : tie.Need-loop-at-init invariant-loop decreases-loop
 loop-holds c = (search rules, search rules, search rules, going_none _ _)
 
-returns : tie.Need-returns invariant-loop decreases-loop
+returns : tie.Need-returns-then-b-gt255 invariant-loop decreases-loop
 returns c =
     let t = c.before in
     let l = t.before.before.before.before.before in
-    let e : l.loop.at + 1 < length (input l) = omega arith in
-    let two = two_left (input l) l.loop.at e in
-    let foreign = is-foreign 256 (pair-below (get_or (input l) l.loop.at 0) (get_or (input l) (l.loop.at + 1) 0)) (omega (arith, t.before.pair.ensures)) in (
-      l.loop.invariant.2,
-      going_ends (drop l.before.before.before.args.from (input l)) l.loop.to l.loop.n (drop l.loop.at (input l)) c.ended.result (eqb (get_or (input l) l.loop.at 0) 10) l.loop.invariant.3
-          (rw two (pair_stops (get_or (input l) l.loop.at 0) (get_or (input l) (l.loop.at + 1) 0) (drop (l.loop.at + 2) (input l)) foreign)) c.ended.ensures.0 c.ended.ensures.1,
+    let e : l.loop-at.at + 1 < length (input l) = omega arith in
+    let two = two_left (input l) l.loop-at.at e in
+    let foreign = is-foreign 256 (pair-below (get_or (input l) l.loop-at.at 0) (get_or (input l) (l.loop-at.at + 1) 0)) (omega (arith, t.before.pair-b.ensures)) in (
+      l.loop-at.invariant.2,
+      going_ends (drop l.before.before.before.args.from (input l)) l.loop-at.to-1 l.loop-at.n (drop l.loop-at.at (input l)) c.ended.result (eqb (get_or (input l) l.loop-at.at 0) 10) l.loop-at.invariant.3
+          (rw two (pair_stops (get_or (input l) l.loop-at.at 0) (get_or (input l) (l.loop-at.at + 1) 0) (drop (l.loop-at.at + 2) (input l)) foreign)) c.ended.ensures.0 c.ended.ensures.1,
     )
 
-loop-again : tie.Need-loop-preserved invariant-loop decreases-loop
+loop-again : tie.Need-loop-at-preserved invariant-loop decreases-loop
 loop-again c =
     let k = c.before.before in
     let t = k.before.before in
     let l = t.before.before.before.before.before in
-    let e : l.loop.at + 1 < length (input l) = omega arith in
-    let two = two_left (input l) l.loop.at e in
-    let a = get_or (input l) l.loop.at 0 in
-    let b = get_or (input l) (l.loop.at + 1) 0 in
-    let g : Going (drop l.before.before.before.args.from (input l)) (a ∷ b ∷ drop (l.loop.at + 2) (input l)) l.loop.to l.loop.n = rw two at l.loop.invariant.3 in
-    let p = t.before.pair.ensures in
-    let v : pair a b ≡ found t.before.pair.result = rw p (is-value 256 (pair-below a b) (omega arith)) in (
+    let e : l.loop-at.at + 1 < length (input l) = omega arith in
+    let two = two_left (input l) l.loop-at.at e in
+    let a = get_or (input l) l.loop-at.at 0 in
+    let b = get_or (input l) (l.loop-at.at + 1) 0 in
+    let g : Going (drop l.before.before.before.args.from (input l)) (a ∷ b ∷ drop (l.loop-at.at + 2) (input l)) l.loop-at.to-1 l.loop-at.n = rw two at l.loop-at.invariant.3 in
+    let p = t.before.pair-b.ensures in
+    let v : pair a b ≡ found t.before.pair-b.result = rw p (is-value 256 (pair-below a b) (omega arith)) in (
       omega arith,
       omega arith,
-      ap length k.keep.ensures ∙ simp length-set l.loop.invariant.2,
-      rw k.keep.ensures (going_more (drop l.before.before.before.args.from (input l)) l.loop.to l.loop.n a b t.before.pair.result (drop (l.loop.at + 2) (input l)) l.loop.invariant.2 v g),
+      ap length k.keep.ensures ∙ simp length-set l.loop-at.invariant.2,
+      rw k.keep.ensures (going_more (drop l.before.before.before.args.from (input l)) l.loop-at.to-1 l.loop-at.n a b t.before.pair-b.result (drop (l.loop-at.at + 2) (input l)) l.loop-at.invariant.2 v g),
     )
 
-returns-2 : tie.Need-returns-2 invariant-loop decreases-loop
+returns-2 : tie.Need-returns invariant-loop decreases-loop
 returns-2 c =
     let l = c.before.before in
-    let rest = drop l.loop.at (input l) in
-    let e : get_or rest 0 0 ≡ get_or (input l) l.loop.at 0 = get_or-drop l.loop.at (input l) 0 0 ∙ ap (λ (k : ℕ). get_or (input l) k 0) (add-zero l.loop.at) in (
-      l.loop.invariant.2,
-      going_ends (drop l.before.before.before.args.from (input l)) l.loop.to l.loop.n rest c.ended2.result (eqb (get_or (input l) l.loop.at 0) 10) l.loop.invariant.3
-          (rw (← e) (ends-short rest (rw length-drop (omega arith)))) c.ended2.ensures.0 c.ended2.ensures.1,
+    let rest = drop l.loop-at.at (input l) in
+    let e : get_or rest 0 0 ≡ get_or (input l) l.loop-at.at 0 = get_or-drop l.loop-at.at (input l) 0 0 ∙ ap (λ (k : ℕ). get_or (input l) k 0) (add-zero l.loop-at.at) in (
+      l.loop-at.invariant.2,
+      going_ends (drop l.before.before.before.args.from (input l)) l.loop-at.to-1 l.loop-at.n rest c.ended-2.result (eqb (get_or (input l) l.loop-at.at 0) 10) l.loop-at.invariant.3
+          (rw (← e) (ends-short rest (rw length-drop (omega arith)))) c.ended-2.ensures.0 c.ended-2.ensures.1,
     )
 
 pub decode_spec : {M : Type 1} → statement M

@@ -8,20 +8,20 @@ use Rattle.frames.proofs.Lining.{count_digits}
 use Rattle.frames.proofs.regions.put_counts.Statement.{statement}
 use Rattle.frames.proofs.regions.put_counts.Tie as tie
 
-put-two-requires-2 : tie.Need-put-two-requires-2
+put-two-requires-2 : tie.Need-put_two-third-requires
 unfolding digits_of big_endian
 put-two-requires-2 c κs =
     let t = c.before.before.before in
-    let w = t.put_two.ensures in
+    let w = t.put_two-second.ensures in
     omega (arith, w.place, w.long, t.before.before.before.requires)
 
-put-four-requires : tie.Need-put-four-requires
+put-four-requires : tie.Need-put_four-requires
 unfolding digits_of big_endian
 put-four-requires c κs =
     let u = c.before.before.before in
     let t = u.before.before.before.before in
-    let w = t.put_two.ensures in
-    let v = u.put-two2.ensures in
+    let w = t.put_two-second.ensures in
+    let v = u.put_two-third.ensures in
     omega (arith, w.place, w.long, v.place, v.long, t.before.before.before.requires)
 
 returns : tie.Need-returns
@@ -32,10 +32,10 @@ returns c =
     let t = u.before.before.before.before in
     let s = t.before.before.before in
     let at = s.args.at in
-    let to = s.args.to.now in
+    let to = s.args.to-1.now in
     let a = digits_of (big_endian 2 s.args.states) in
     let b = digits_of (big_endian 2 s.args.attempts) in
-    let two = wrote_then a b at _ _ to _ _ (omega (arith, s.requires)) t.put_two.ensures u.put-two2.ensures in
+    let two = wrote_then a b at _ _ to _ _ (omega (arith, s.requires)) t.put_two-second.ensures u.put_two-third.ensures in
     rw (count_digits s.args.states s.args.attempts s.args.formed)
     (wrote_then (a ++ b) (digits_of (big_endian 4 s.args.formed)) at _ _ to _ _ (omega (arith, s.requires)) two f.put_four.ensures)
 

@@ -15,33 +15,33 @@ use Rattle.frames.proofs.regions.region_length.Tie as tie
 zero-plus : (n : ℕ) → 0 + n ≡ n
 zero-plus n = omega arith
 
-abbrev invariant-loop : tie.invariant-loop
+abbrev invariant-loop : tie.invariant-loop-i
 invariant-loop region n total₀ i₀ total i = (i ≤ n) × (total ≤ i * 171) × (total + length (row_lines (from_row region n i)) ≡ length (row_lines (rows_at region 0 n)))
 
-abbrev decreases-loop : tie.decreases-loop
+abbrev decreases-loop : tie.decreases-loop-i
 decreases-loop region n total₀ i₀ total i = n - i
 
-loop-holds : tie.Need-loop-init invariant-loop decreases-loop
+loop-holds : tie.Need-loop-i-init invariant-loop decreases-loop
 loop-holds c = (search rules, search rules, zero-plus _ ∙ ap length (lines-all c.args.region.now c.args.n))
 
-loop-again : tie.Need-loop-preserved invariant-loop decreases-loop
+loop-again : tie.Need-loop-i-preserved invariant-loop decreases-loop
 loop-again c =
     let l = c.before.before.before in
     let s = l.before.args.region.now in
     let n = l.before.args.n in
-    let h : l.loop.i < n = omega arith in
-    let k = rw c.before.read.ensures at c.row-length.ensures.0 in
-    let e = lines_turn s n l.loop.i h in (
+    let h : l.loop-i.i < n = omega arith in
+    let k = rw c.before.read.ensures at c.row_length-total.ensures.0 in
+    let e = lines_turn s n l.loop-i.i h in (
       search rules,
-      omega (arith, c.row-length.ensures.1),
-      omega (arith, l.loop.invariant.2, k, ap length e, length-append (line_of (row_bytes (row_at s (l.loop.i * row_numbers)))) (row_lines (from_row s n (l.loop.i + 1)))),
+      omega (arith, c.row_length-total.ensures.1),
+      omega (arith, l.loop-i.invariant.2, k, ap length e, length-append (line_of (row_bytes (row_at s (l.loop-i.i * row_numbers)))) (row_lines (from_row s n (l.loop-i.i + 1)))),
     )
 
 returns : tie.Need-returns invariant-loop decreases-loop
 returns c =
     let l = c.before in
     let s = l.before.args.region.now in
-    (omega (arith, l.loop.invariant.2, ap length (lines-done s l.before.args.n l.loop.i c.loop-test.false)), omega arith)
+    (omega (arith, l.loop-i.invariant.2, ap length (lines-done s l.before.args.n l.loop-i.i c.loop-i-test.false)), omega arith)
 
 pub region_length_spec : {M : Type 1} → statement M
 region_length_spec =

@@ -5,38 +5,38 @@ use Rattle.frames.specs.Reading.{due_length, content}
 use Rattle.frames.proofs.steps.content.Statement.{statement}
 use Rattle.frames.proofs.steps.content.Tie as tie
 
-header-frame-requires : tie.Need-header-frame-requires
+header-frame-requires : tie.Need-header_frame-requires
 unfolding due_length
-header-frame-requires c κs = rw c.if1.true at c.before.before.requires.3
+header-frame-requires c κs = rw c.if-kind-eq1.true at c.before.before.requires.3
 
-returns : tie.Need-returns
+returns : tie.Need-returns-then-kind-eq1
 unfolding content
-returns c s e = rw c.before.if1.true (c.header_frame.ensures s)
+returns c s e = rw c.before.if-kind-eq1.true (c.header_frame.ensures s)
 
-reference-frame-requires : tie.Need-reference-frame-requires
+reference-frame-requires : tie.Need-reference_frame-requires
 unfolding due_length
-reference-frame-requires c κs = let s = c.before.before.before in (s.requires.0.parameters, rw c.if2.true at s.requires.3)
+reference-frame-requires c κs = let s = c.before.before.before in (s.requires.0.parameters, rw c.if-kind-eq2.true at s.requires.3)
 
-returns-2 : tie.Need-returns-2
+returns-2 : tie.Need-returns-then-kind-eq2
 unfolding content
-returns-2 c s e = rw c.before.if2.true (c.reference_frame.ensures s e)
+returns-2 c s e = rw c.before.if-kind-eq2.true (c.reference_frame.ensures s e)
 
-transition-frame-requires : tie.Need-transition-frame-requires
+transition-frame-requires : tie.Need-transition_frame-requires
 unfolding due_length
-transition-frame-requires c κs = let s = c.before.before.before.before in rw c.if3.true at s.requires.3
+transition-frame-requires c κs = let s = c.before.before.before.before in rw c.if-kind-eq4.true at s.requires.3
 
-returns-3 : tie.Need-returns-3
+returns-3 : tie.Need-returns-then-kind-eq4
 unfolding content
-returns-3 c s e = rw c.before.if3.true (c.transition_frame.ensures s e)
+returns-3 c s e = rw c.before.if-kind-eq4.true (c.transition_frame.ensures s e)
 
-row-frame-requires : tie.Need-row-frame-requires
+row-frame-requires : tie.Need-row_frame-requires
 unfolding due_length
 row-frame-requires c κs =
     let s = c.before.before.before.before in
     let k : s.args.kind ≡ 3 = omega arith in
     (s.requires.0, rw k at s.requires.3)
 
-returns-4 : tie.Need-returns-4
+returns-4 : tie.Need-returns
 unfolding content
 returns-4 c s e =
     let d = c.before in

@@ -5,17 +5,17 @@ use Rattle.frames.specs.Reading.{due_length}
 use Rattle.frames.proofs.steps.due_length.Statement.{statement}
 use Rattle.frames.proofs.steps.due_length.Tie as tie
 
-returns : tie.Need-returns
+returns : tie.Need-returns-then-kind-eq2
 unfolding due_length
-returns c = rw c.if1.true
+returns c = rw c.if-kind-eq2.true
 
-returns-2 : tie.Need-returns-2
+returns-2 : tie.Need-returns-then-kind-eq3
 unfolding due_length
-returns-2 c = rw c.if2.true
+returns-2 c = rw c.if-kind-eq3.true
 
-returns-3 : tie.Need-returns-3
+returns-3 : tie.Need-returns
 unfolding due_length
-returns-3 c = rw (ne_eqb _ 2 c.before.if1.false, ne_eqb _ 3 c.if2.false)
+returns-3 c = rw (ne_eqb _ 2 c.before.if-kind-eq2.false, ne_eqb _ 3 c.if-kind-eq3.false)
 
 pub due_length_spec : {M : Type 1} → statement M
 due_length_spec =

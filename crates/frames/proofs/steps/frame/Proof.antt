@@ -15,17 +15,17 @@ use Rattle.frames.proofs.steps.frame.Statement.{statement}
 use Rattle.frames.proofs.steps.frame.Tie as tie
 
 -- the buffer has a byte at least, and no more than its length
-n-is : (c : tie.After-held) → (1 ≤ c.held.result) × (c.held.result ≤ frame_limit)
+n-is : (c : tie.After-held-n) → (1 ≤ c.held-n.result) × (c.held-n.result ≤ frame_limit)
 n-is c =
     let count = c.before.before.before.args.count in
-    rw c.held.ensures (held-some count (omega arith), held-few count)
+    rw c.held-n.ensures (held-some count (omega arith), held-few count)
 
 -- a byte's worth of terms
-omega-small : (c : tie.After-placed) → term_count (take (c.before.before.before.before.held.result - 1) (drop 1 c.before.before.before.before.before.before.before.args.buffer.now)) < 256
+omega-small : (c : tie.After-placed-o) → term_count (take (c.before.before.before.before.held-n.result - 1) (drop 1 c.before.before.before.before.before.before.before.args.buffer.now)) < 256
 omega-small c = omega (arith, c.before.term_count.ensures)
 
 -- what the places further on start from
-module _ (c : tie.After-placed) where
+module _ (c : tie.After-placed-o) where
   abbrev start : tie.Start
   start = c.before.before.before.before.before.before.before
 
@@ -39,33 +39,33 @@ module _ (c : tie.After-placed) where
   shown = take (held start.args.count - 1) (drop 1 to)
 
   some : 0 < start.args.count
-  some = omega (arith, c.before.before.before.before.before.if1.false)
+  some = omega (arith, c.before.before.before.before.before.if-count-eq0.false)
 
-  read : c.placed.result ≡ placed p (get_or to 0 0) (start.args.count - 1) (term_count shown)
-  read = rw (c.before.term_count.ensures, c.before.before.before.before.held.ensures) at c.placed.ensures
+  read : c.placed-o.result ≡ placed p (get_or to 0 0) (start.args.count - 1) (term_count shown)
+  read = rw (c.before.term_count.ensures, c.before.before.before.before.held-n.ensures) at c.placed-o.ensures
 
   frame-told : (s : Seen) (bs : List ℕ) → progress_of s ≡ p → length bs ≡ start.args.count → take start.args.count to ≡ take frame_limit bs →
-      frame s bs ≡ passed c.placed.result (content s (get_or to 0 0) (drop 1 bs))
+      frame s bs ≡ passed c.placed-o.result (content s (get_or to 0 0) (drop 1 bs))
   frame-told s bs e size same =
       frame-shown to bs start.args.count size start.pre.1 same some s ∙
       ap (λ (o : Outcome). passed o (content s (get_or to 0 0) (drop 1 bs))) (ap (λ (q : Progress). placed q (get_or to 0 0) (start.args.count - 1) (term_count shown)) e ∙ sym read)
 
   few-terms : term_count shown < 256
-  few-terms = rw c.before.before.before.before.held.ensures at (omega-small c)
+  few-terms = rw c.before.before.before.before.held-n.ensures at (omega-small c)
 
-module _ (c : tie.After-enum-told) where
+module _ (c : tie.In-Found) where
   place : InPlace (p c.before.before) (get_or (to c.before.before) 0 0) ((start c.before.before).args.count - 1) (term_count (shown c.before.before))
-  place = in_place _ _ _ _ (sym (read c.before.before) ∙ c.enum_told.given.1)
+  place = in_place _ _ _ _ (sym (read c.before.before) ∙ c.enum_told-1.given.1)
 
   fits : (start c.before.before).args.count ≤ frame_limit
   fits =
       let o = c.before.before in
       omega (arith, place.size, due-small (p o).header (get_or (to o) 0 0) (term_count (shown o)) (start o).requires.0 (few-terms o), some o)
 
-returns : tie.Need-returns
-returns c s bs e size same = rw (frame-none s bs (size ∙ c.before.if1.true)) c.blank.ensures.1
+returns : tie.Need-returns-then-count-eq0
+returns c s bs e size same = rw (frame-none s bs (size ∙ c.before.if-count-eq0.true)) c.blank.ensures.1
 
-sub-b : tie.Need-overflow-sub-b
+sub-b : tie.Need-slice_bounds-b-count
 sub-b c = (n-is c.before).0
 
 part-b-start : tie.Need-slice-bounds-b-start
@@ -78,31 +78,31 @@ content-requires : tie.Need-content-requires
 content-requires c κs =
     let o = c.before.before in
     let s = start o in
-    rw o.before.before.before.before.held.ensures (
+    rw o.before.before.before.before.held-n.ensures (
       s.pre.0,
       (place c).low,
       (place c).high,
       shown-length (to o) s.args.count s.pre.1 (fits c) ∙ (place c).size,
     )
 
-returns-2 : tie.Need-returns-2
+returns-2 : tie.Need-returns-in-Found
 returns-2 c s bs e size same =
     let t = c.before in
     let o = t.before.before in
     let g : Told c.content.result s (content s (get_or (to o) 0 0) (shown o)) =
-    rw o.before.before.before.before.held.ensures at (c.content.ensures s (ap (λ (q : Progress). q.header) e)) in
+    rw o.before.before.before.before.held-n.ensures at (c.content.ensures s (ap (λ (q : Progress). q.header) e)) in
     let w = whole-shown (to o) bs (start o).args.count size (start o).requires.1 same (some o) (fits t) in
     let is : frame s bs ≡ content s (get_or (to o) 0 0) (shown o) =
-    frame-told o s bs e size same ∙ ap (λ (q : Outcome). passed q (content s (get_or (to o) 0 0) (drop 1 bs))) t.enum_told.given.1 ∙ ap (content s (get_or (to o) 0 0)) (sym w) in
+    frame-told o s bs e size same ∙ ap (λ (q : Outcome). passed q (content s (get_or (to o) 0 0) (drop 1 bs))) t.enum_told-1.given.1 ∙ ap (content s (get_or (to o) 0 0)) (sym w) in
     rw is g
 
-returns-3 : tie.Need-returns-3
+returns-3 : tie.Need-returns-in-Refused
 returns-3 c s bs e size same =
     let k = c.before.before in
     let o = k.before.before in
-    let is : frame s bs ≡ refused k.o.given.0.0 =
-    frame-told o s bs e size same ∙ ap (λ (q : Outcome). passed q (content s (get_or (to o) 0 0) (drop 1 bs))) k.o.given.1 in
-    rw is c.blank2.ensures.1
+    let is : frame s bs ≡ refused k.o-1.given.0.0 =
+    frame-told o s bs e size same ∙ ap (λ (q : Outcome). passed q (content s (get_or (to o) 0 0) (drop 1 bs))) k.o-1.given.1 in
+    rw is c.blank-in-Refused.ensures.1
 
 pub frame_spec : {M : Type 1} → statement M
 frame_spec =

@@ -7,18 +7,18 @@ use Rattle.frames.proofs.Taking.{met-header}
 use Rattle.frames.proofs.steps.header_frame.Statement.{statement}
 use Rattle.frames.proofs.steps.header_frame.Tie as tie
 
-returns : tie.Need-returns
+returns : tie.Need-returns-then-not-fits
 unfolding header_frame
 returns c s =
     let f = c.before.before in
-    rw (sym (rw f.before.header_of.ensures at f.fits2.ensures) ∙ not-true f.fits2.result c.before.if1.true) c.blank.ensures.1
+    rw (sym (rw f.before.header_of-h.ensures at f.fits2.ensures) ∙ not-true f.fits2.result c.before.if-not-fits.true-raw) c.blank.ensures.1
 
-returns-2 : tie.Need-returns-2
+returns-2 : tie.Need-returns
 unfolding header_frame
 returns-2 c s =
     let f = c.before.before in
-    rw (sym (rw f.before.header_of.ensures at f.fits2.ensures) ∙ not-false f.fits2.result c.before.if1.false)
-    (met-header _ s c.blank2.ensures.1 (header_of f.before.before.before.args.b.now) c.blank2.ensures.0 f.before.header_of.ensures)
+    rw (sym (rw f.before.header_of-h.ensures at f.fits2.ensures) ∙ not-false f.fits2.result c.before.if-not-fits.false-raw)
+    (met-header _ s c.blank-f.ensures.1 (header_of f.before.before.before.args.b.now) c.blank-f.ensures.0 f.before.header_of-h.ensures)
 
 pub header_frame_spec : {M : Type 1} → statement M
 header_frame_spec =

@@ -5,23 +5,23 @@ use Rattle.frames.specs.Reading.{is_due}
 use Rattle.frames.proofs.steps.is_due.Statement.{statement}
 use Rattle.frames.proofs.steps.is_due.Tie as tie
 
-returns : tie.Need-returns
+returns : tie.Need-returns-then-kind-eq1
 unfolding is_due
-returns c = rw c.before.if1.true
+returns c = rw c.before.if-kind-eq1.true
 
-returns-2 : tie.Need-returns-2
+returns-2 : tie.Need-returns-then-kind-eq2
 unfolding is_due
-returns-2 c = rw c.before.if2.true
+returns-2 c = rw c.before.if-kind-eq2.true
 
-returns-3 : tie.Need-returns-3
+returns-3 : tie.Need-returns-then-kind-eq4
 unfolding is_due
-returns-3 c = rw c.before.before.if3.true c.both.ensures
+returns-3 c = rw c.before.before.if-kind-eq4.true c.both.ensures
 
-returns-4 : tie.Need-returns-4
+returns-4 : tie.Need-returns
 unfolding is_due
 returns-4 c =
     let d = c.before.before.before.before in
-    rw (ne_eqb _ 1 d.before.before.if1.false, ne_eqb _ 2 d.before.if2.false, ne_eqb _ 4 d.if3.false) (rw c.before.both2.ensures at c.both3.ensures)
+    rw (ne_eqb _ 1 d.before.before.if-kind-eq1.false, ne_eqb _ 2 d.before.if-kind-eq2.false, ne_eqb _ 4 d.if-kind-eq4.false) (rw c.before.both-2.ensures at c.both-3.ensures)
 
 pub is_due_spec : {M : Type 1} → statement M
 is_due_spec =

@@ -9,19 +9,19 @@ use Rattle.frames.proofs.Taking.{met_transition}
 use Rattle.frames.proofs.steps.transition_frame.Statement.{statement}
 use Rattle.frames.proofs.steps.transition_frame.Tie as tie
 
-returns : tie.Need-returns
+returns : tie.Need-returns-then-not-transition_declared
 unfolding transition_frame
 returns c s e =
     let d = c.before.before in
-    rw (e, sym (rw d.before.transition_of.ensures at d.transition_declared.ensures) ∙ not-true d.transition_declared.result c.before.if1.true) c.blank.ensures.1
+    rw (e, sym (rw d.before.transition_of-t.ensures at d.transition_declared.ensures) ∙ not-true d.transition_declared.result c.before.if-not-transition_declared.true-raw) c.blank.ensures.1
 
-returns-2 : tie.Need-returns-2
+returns-2 : tie.Need-returns
 unfolding transition_frame
 returns-2 c s e =
     let d = c.before.before in
     let b = d.before.before.before.args.b.now in
-    let t : transition_declared s.header (transition_of b) ≡ true = rw e (sym (rw d.before.transition_of.ensures at d.transition_declared.ensures) ∙ not-false d.transition_declared.result c.before.if1.false) in
-    rw t (met_transition _ s c.blank2.ensures.1 (transition_of b) c.blank2.ensures.0 d.before.transition_of.ensures)
+    let t : transition_declared s.header (transition_of b) ≡ true = rw e (sym (rw d.before.transition_of-t.ensures at d.transition_declared.ensures) ∙ not-false d.transition_declared.result c.before.if-not-transition_declared.false-raw) in
+    rw t (met_transition _ s c.blank-f.ensures.1 (transition_of b) c.blank-f.ensures.0 d.before.transition_of-t.ensures)
 
 pub transition_frame_spec : {M : Type 1} → statement M
 transition_frame_spec =

@@ -5,16 +5,16 @@ use Rattle.models.proofs.Declared.{named, not-initial, a_clock}
 use Rattle.models.proofs.Header.entry_declared.Statement.{statement}
 use Rattle.models.proofs.Header.entry_declared.Tie as tie
 
-returns : tie.Need-returns
-returns c = named c.before.args.self c.before.args.kind c.before.args.entry c.if1.true
+returns : tie.Need-returns-then-entry-parameters
+returns c = named c.before.args.self c.before.args.kind c.before.args.entry c.if-entry-parameters.true
 
-returns-2 : tie.Need-returns-2
-returns-2 c = let s = c.before.before in not-initial s.args.self s.args.kind s.args.entry c.before.if1.false c.if2.true
+returns-2 : tie.Need-returns-then-kind-eq0
+returns-2 c = let s = c.before.before in not-initial s.args.self s.args.kind s.args.entry c.before.if-entry-parameters.false c.if-kind-eq0.true
 
-returns-3 : tie.Need-returns-3
+returns-3 : tie.Need-returns
 returns-3 c =
     let s = c.before.before.before in
-    c.both.ensures ∙ a_clock s.args.self s.args.kind s.args.entry c.before.before.if1.false c.before.if2.false
+    c.both.ensures ∙ a_clock s.args.self s.args.kind s.args.entry c.before.before.if-entry-parameters.false c.before.if-kind-eq0.false
 
 pub entry_declared_spec : {M : Type 1} → statement M
 entry_declared_spec =

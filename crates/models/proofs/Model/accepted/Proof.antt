@@ -15,47 +15,47 @@ use Rattle.models.proofs.Model.accepted.Statement.{statement}
 use Rattle.models.proofs.Model.accepted.Tie as tie
 
 -- the tests that were passed, and the model that they are of
-header : (c : tie.Else1) → header_fits c.before.before.before.before.args.self.header ≡ true
-header c = sym c.before.fits2.ensures ∙ not-false c.before.fits2.result c.if1.false
+header : (c : tie.Else-not-fits) → header_fits c.before.before.before.before.args.self.header ≡ true
+header c = sym c.before.fits-2.ensures ∙ not-false c.before.fits-2.result c.if-not-fits.false-raw
 
-reference : (c : tie.Else2) → reference_fits (given_reference c.before.before.before.before.before.before.args.self) ≡ true
-reference c = sym c.before.fits3.ensures ∙ not-false c.before.fits3.result c.if2.false
+reference : (c : tie.Else-not-fits-2) → reference_fits (given_reference c.before.before.before.before.before.before.args.self) ≡ true
+reference c = sym c.before.fits3.ensures ∙ not-false c.before.fits3.result c.if-not-fits-2.false-raw
 
-module _ (c : tie.Else3) where
+module _ (c : tie.Else-not-transitions_declared) where
   abbrev m : Model
   m = c.before.before.before.before.before.before.before.before.args.self
 
   transitions : every (transition_declared m.header) (given_transitions m) ≡ true
-  transitions = sym c.before.transitions-declared.ensures ∙ not-false c.before.transitions-declared.result c.if3.false
+  transitions = sym c.before.transitions_declared.ensures ∙ not-false c.before.transitions_declared.result c.if-not-transitions_declared.false-raw
 
-returns : tie.Need-returns
+returns : tie.Need-returns-then-not-fits
 unfolding accepted
-returns c = rw (sym c.before.fits2.ensures ∙ not-true c.before.fits2.result c.if1.true)
+returns c = rw (sym c.before.fits-2.ensures ∙ not-true c.before.fits-2.result c.if-not-fits.true-raw)
 
 fits-requires-2 : tie.Need-fits-requires-2
 fits-requires-2 c κs = parameters-within c.before.before.before.before.args.self.header (header c)
 
-returns-2 : tie.Need-returns-2
+returns-2 : tie.Need-returns-then-not-fits-2
 unfolding accepted
-returns-2 c = rw (header c.before.before, sym c.before.fits3.ensures ∙ not-true c.before.fits3.result c.if2.true)
+returns-2 c = rw (header c.before.before, sym c.before.fits3.ensures ∙ not-true c.before.fits3.result c.if-not-fits-2.true-raw)
 
-transitions-declared-requires : tie.Need-transitions-declared-requires
+transitions-declared-requires : tie.Need-transitions_declared-requires
 transitions-declared-requires c κs = transitions-within c.before.before.before.before.before.before.args.self.header (header c.before.before)
 
-returns-3 : tie.Need-returns-3
+returns-3 : tie.Need-returns-then-not-transitions_declared
 unfolding accepted
 returns-3 c =
     let e = c.before.before in
-    rw (header e.before.before, reference e, sym c.before.transitions-declared.ensures ∙ not-true c.before.transitions-declared.result c.if3.true)
+    rw (header e.before.before, reference e, sym c.before.transitions_declared.ensures ∙ not-true c.before.transitions_declared.result c.if-not-transitions_declared.true-raw)
 
-reference-outcome-requires : tie.Need-reference-outcome-requires
+reference-outcome-requires : tie.Need-reference_outcome-requires
 reference-outcome-requires c κs =
     let o = c.before.before in
     let e = o.before in
-    let rows = past-rows (m e).header (given_rows (m e)) Found (sym o.rows-outcome.ensures ∙ c.enum_told.given.1) in
+    let rows = past-rows (m e).header (given_rows (m e)) Found (sym o.rows_outcome-o.ensures ∙ c.enum_told-1.given.1) in
     (all_map (λ r h. terms-small r.entries h.1) rows.0, reference-within _ _ (reference e.before.before), parameters-within (m e).header (header e.before.before.before.before))
 
-returns-4 : tie.Need-returns-4
+returns-4 : tie.Need-returns-in-Found
 unfolding accepted
 returns-4 c =
     let o = c.before.before.before in
@@ -64,20 +64,20 @@ returns-4 c =
       header e.before.before.before.before,
       reference e.before.before,
       transitions e,
-      rows-found (m e).header (given_rows (m e)) _ (sym o.rows-outcome.ensures ∙ c.before.enum_told.given.1),
-    ) c.reference-outcome.ensures
+      rows-found (m e).header (given_rows (m e)) _ (sym o.rows_outcome-o.ensures ∙ c.before.enum_told-1.given.1),
+    ) c.reference_outcome.ensures
 
-returns-5 : tie.Need-returns-5
+returns-5 : tie.Need-returns-in-Refused
 unfolding accepted
 returns-5 c =
     let o = c.before.before.before in
     let e = o.before in
-    let g = c.before.o.given in
+    let g = c.before.o-1.given in
     rw (
       header e.before.before.before.before,
       reference e.before.before,
       transitions e,
-      rows-refused (m e).header (given_rows (m e)) _ g.0.0 (sym o.rows-outcome.ensures ∙ g.1),
+      rows-refused (m e).header (given_rows (m e)) _ g.0.0 (sym o.rows_outcome-o.ensures ∙ g.1),
     )
 
 pub accepted_spec : {M : Type 1} → statement M

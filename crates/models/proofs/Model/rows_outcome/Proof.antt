@@ -15,61 +15,61 @@ use Rattle.models.proofs.Tables.{long_mapped, no_row, held-few, held-length, hel
 use Rattle.models.proofs.Model.rows_outcome.Statement.{statement}
 use Rattle.models.proofs.Model.rows_outcome.Tie as tie
 
-abbrev invariant-loop : tie.invariant-loop
+abbrev invariant-loop : tie.invariant-loop-i
 invariant-loop self h n i₀ i = (i ≤ n) × (n ≤ 128) × (rows_accepted self.header (drop i (given_rows self)) Found ≡ rows_accepted self.header (given_rows self) Found)
 
-abbrev decreases-loop : tie.decreases-loop
+abbrev decreases-loop : tie.decreases-loop-i
 decreases-loop self h n i₀ i = n - i
 
 long : (c : tie.Start invariant-loop decreases-loop) → length c.args.t1.rows ≡ 128
 long c = search (rules, long_mapped)
 
 -- the table, and its row that a turn looks at
-module _ (l : tie.At-loop invariant-loop decreases-loop) where
+module _ (l : tie.At-loop-i invariant-loop decreases-loop) where
   abbrev m : Model
   m = l.before.before.before.args.t1
 
   abbrev r : ModelRow
-  r = get_or (given_rows m) l.loop.i no_row
+  r = get_or (given_rows m) l.loop-i.i no_row
 
-  all : length (given_rows m) ≡ l.before.held.result
-  all = held-length m.count m.rows (long l.before.before.before) ∙ sym l.before.held.ensures
+  all : length (given_rows m) ≡ l.before.held-n.result
+  all = held-length m.count m.rows (long l.before.before.before) ∙ sym l.before.held-n.ensures
 
-  left : l.loop.i < l.before.held.result → rows_accepted m.header (r ∷ drop (l.loop.i + 1) (given_rows m)) Found ≡ rows_accepted m.header (given_rows m) Found
-  left h = rw (drop_turn (given_rows m) l.loop.i no_row (rw all h)) at l.loop.inv.2
+  left : l.loop-i.i < l.before.held-n.result → rows_accepted m.header (r ∷ drop (l.loop-i.i + 1) (given_rows m)) Found ≡ rows_accepted m.header (given_rows m) Found
+  left h = rw (drop_turn (given_rows m) l.loop-i.i no_row (rw all h)) at l.loop-i.inv.2
 
-read : (c : tie.After-outcome invariant-loop decreases-loop) →
+read : (c : tie.After-outcome-o invariant-loop decreases-loop) →
     let l = c.before.before.before in
-    l.loop.i < l.before.held.result → c.outcome.result ≡ rows_accepted (m l).header (r l ∷ []) Found
+    l.loop-i.i < l.before.held-n.result → c.outcome-o.result ≡ rows_accepted (m l).header (r l ∷ []) Found
 read c h =
     let l = c.before.before.before in
-    rw (held_at (m l).count (m l).rows (long l.before.before.before) l.loop.i no_row (rw l.before.held.ensures at h)) c.outcome.ensures
+    rw (held_at (m l).count (m l).rows (long l.before.before.before) l.loop-i.i no_row (rw l.before.held-n.ensures at h)) c.outcome-o.ensures
 
-loop-holds : tie.Need-loop-init invariant-loop decreases-loop
-loop-holds c = (search rules, rw c.held.ensures (held-few c.before.before.args.t1.count c.before.before.args.t1.rows (long c.before.before)), refl)
+loop-holds : tie.Need-loop-i-init invariant-loop decreases-loop
+loop-holds c = (search rules, rw c.held-n.ensures (held-few c.before.before.args.t1.count c.before.before.args.t1.rows (long c.before.before)), refl)
 
-returns : tie.Need-returns invariant-loop decreases-loop
+returns : tie.Need-returns-in-Refused invariant-loop decreases-loop
 returns c =
     let o = c.before.before.before in
     let l = o.before.before.before in
-    let h : l.loop.i < l.before.held.result = omega arith in
-    let g = c.before.o.given in
-    sym (row_stops (m l).header (r l) (drop (l.loop.i + 1) (given_rows (m l))) Found g.0.0 (sym (read o h) ∙ g.1)) ∙ left l h
+    let h : l.loop-i.i < l.before.held-n.result = omega arith in
+    let g = c.before.o-1.given in
+    sym (row_stops (m l).header (r l) (drop (l.loop-i.i + 1) (given_rows (m l))) Found g.0.0 (sym (read o h) ∙ g.1)) ∙ left l h
 
-loop-again : tie.Need-loop-preserved invariant-loop decreases-loop
+loop-again : tie.Need-loop-i-preserved invariant-loop decreases-loop
 loop-again c =
     let o = c.before.before in
     let l = o.before.before.before in
-    let h : l.loop.i < l.before.held.result = omega arith in (
+    let h : l.loop-i.i < l.before.held-n.result = omega arith in (
       search rules,
-      l.loop.invariant.1,
-      sym (row-passes (m l).header (r l) (drop (l.loop.i + 1) (given_rows (m l))) Found (sym (read o h) ∙ c.enum_told.given.1)) ∙ left l h,
+      l.loop-i.invariant.1,
+      sym (row-passes (m l).header (r l) (drop (l.loop-i.i + 1) (given_rows (m l))) Found (sym (read o h) ∙ c.enum_told-1.given.1)) ∙ left l h,
     )
 
-returns-2 : tie.Need-returns-2 invariant-loop decreases-loop
+returns-2 : tie.Need-returns invariant-loop decreases-loop
 returns-2 c =
     let l = c.before in
-    rows-done (m l).header (given_rows (m l)) l.loop.i (omega (arith, all l)) ∙ l.loop.invariant.2
+    rows-done (m l).header (given_rows (m l)) l.loop-i.i (omega (arith, all l)) ∙ l.loop-i.invariant.2
 
 pub rows_outcome_spec : {M : Type 1} → statement M
 rows_outcome_spec =

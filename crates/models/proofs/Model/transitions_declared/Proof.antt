@@ -16,53 +16,53 @@ use Rattle.models.proofs.Tables.{long_mapped}
 use Rattle.models.proofs.Model.transitions_declared.Statement.{statement}
 use Rattle.models.proofs.Model.transitions_declared.Tie as tie
 
-abbrev invariant-loop : tie.invariant-loop
+abbrev invariant-loop : tie.invariant-loop-i
 invariant-loop self h i₀ i-end i = (i ≤ self.header.transitions) × (every (transition_declared self.header) (drop i (given_transitions self)) ≡ every (transition_declared self.header) (given_transitions self))
 
-abbrev decreases-loop : tie.decreases-loop
+abbrev decreases-loop : tie.decreases-loop-i
 decreases-loop self h i₀ i-end i = self.header.transitions - i
 
 -- what stands past the table's end
 abbrev none : Transition
 none = record { source = 0; action = 0; target = 0; resets = 0 }
 
-abbrev given : tie.At-loop invariant-loop decreases-loop → List Transition
+abbrev given : tie.At-loop-i invariant-loop decreases-loop → List Transition
 given l = given_transitions l.before.before.before.args.t1
 
 long : (c : tie.Start invariant-loop decreases-loop) → length (given_transitions c.args.t1) ≡ c.args.t1.header.transitions
 long c = let e : length c.args.t1.transitions ≡ 64 = search (rules, long_mapped) in length-take-le _ c.args.t1.transitions (omega (arith, c.requires))
 
-read : (c : tie.After-transition-declared invariant-loop decreases-loop) →
+read : (c : tie.After-transition_declared invariant-loop decreases-loop) →
     let l = c.before.before.before in
-    l.loop.i < l.before.before.before.args.t1.header.transitions →
-    c.transition_declared.result ≡ transition_declared l.before.before.before.args.t1.header (get_or (given l) l.loop.i none)
+    l.loop-i.i < l.before.before.before.args.t1.header.transitions →
+    c.transition_declared.result ≡ transition_declared l.before.before.before.args.t1.header (get_or (given l) l.loop-i.i none)
 read c h =
     let l = c.before.before.before in
-    rw (get_or-take l.before.before.before.args.t1.header.transitions l.before.before.before.args.t1.transitions l.loop.i none h) c.transition_declared.ensures
+    rw (get_or-take l.before.before.before.args.t1.header.transitions l.before.before.before.args.t1.transitions l.loop-i.i none h) c.transition_declared.ensures
 
-loop-holds : tie.Need-loop-init invariant-loop decreases-loop
+loop-holds : tie.Need-loop-i-init invariant-loop decreases-loop
 loop-holds c = (search rules, refl)
 
-returns : tie.Need-returns invariant-loop decreases-loop
+returns : tie.Need-returns-then-not-transition_declared invariant-loop decreases-loop
 returns c =
     let l = c.before.before.before.before in
     let h = l.before.before.before.args.t1.header in
-    every_stops (transition_declared h) (given l) l.loop.i none (omega (arith, long l.before.before.before))
-    (sym (read c.before (omega arith)) ∙ not-true c.before.transition_declared.result c.if1.true) ∙ l.loop.invariant.1
+    every_stops (transition_declared h) (given l) l.loop-i.i none (omega (arith, long l.before.before.before))
+    (sym (read c.before (omega arith)) ∙ not-true c.before.transition_declared.result c.if-not-transition_declared.true-raw) ∙ l.loop-i.invariant.1
 
-loop-again : tie.Need-loop-preserved invariant-loop decreases-loop
+loop-again : tie.Need-loop-i-preserved invariant-loop decreases-loop
 loop-again c =
     let l = c.before.before.before.before in
     let h = l.before.before.before.args.t1.header in (
       search rules,
-      every_turn (transition_declared h) (given l) l.loop.i none (omega (arith, long l.before.before.before))
-          (sym (read c.before (omega arith)) ∙ not-false c.before.transition_declared.result c.if1.false) ∙ l.loop.invariant.1,
+      every_turn (transition_declared h) (given l) l.loop-i.i none (omega (arith, long l.before.before.before))
+          (sym (read c.before (omega arith)) ∙ not-false c.before.transition_declared.result c.if-not-transition_declared.false-raw) ∙ l.loop-i.invariant.1,
     )
 
-returns-2 : tie.Need-returns-2 invariant-loop decreases-loop
+returns-2 : tie.Need-returns invariant-loop decreases-loop
 returns-2 c =
     let l = c.before in
-    every-done (transition_declared l.before.before.before.args.t1.header) (given l) l.loop.i none (omega (arith, long l.before.before.before)) ∙ l.loop.invariant.1
+    every-done (transition_declared l.before.before.before.args.t1.header) (given l) l.loop-i.i none (omega (arith, long l.before.before.before)) ∙ l.loop-i.invariant.1
 
 pub transitions_declared_spec : {M : Type 1} → statement M
 transitions_declared_spec =

@@ -13,8 +13,8 @@ unfolding reference_fits
 returns c =
     let d = c.before.before.before.before.args.self.denominator in
     let e = back w32 d (search rules) in
-    let g : c.before.before.given-from.result ≡ between_whole 1 d given_limit = rw e at c.before.before.given-from.ensures in
-    rw (g, c.before.numerators-fit.ensures) at c.both.ensures
+    let g : c.before.before.given_from.result ≡ between_whole 1 d given_limit = rw e at c.before.before.given_from.ensures in
+    rw (g, c.before.numerators_fit.ensures) at c.both.ensures
 
 pub fits_spec : {M : Type 1} → statement M
 fits_spec = tie.close (tie.spec

@@ -25,48 +25,48 @@ small z = between_whole 0 z given_limit
 abbrev counted : List ℤ → ℕ → List ℤ
 counted ns n = map (λ i. at ns i) (from 0 n)
 
-abbrev invariant-loop : tie.invariant-loop
+abbrev invariant-loop : tie.invariant-loop-i
 invariant-loop parameters ns i₀ i-end i = (i ≤ parameters) × (every small (drop i (counted ns parameters)) ≡ every small (counted ns parameters))
 
-abbrev decreases-loop : tie.decreases-loop
+abbrev decreases-loop : tie.decreases-loop-i
 decreases-loop parameters ns i₀ i-end i = parameters - i
 
-abbrev ns : tie.At-loop invariant-loop decreases-loop → List ℤ
+abbrev ns : tie.At-loop-i invariant-loop decreases-loop → List ℤ
 ns l = l.before.before.args.self.numerators
 
-abbrev count : tie.At-loop invariant-loop decreases-loop → ℕ
+abbrev count : tie.At-loop-i invariant-loop decreases-loop → ℕ
 count l = l.before.before.args.parameters
 
-read : (c : tie.After-given-from invariant-loop decreases-loop) →
+read : (c : tie.After-given_from invariant-loop decreases-loop) →
     let l = c.before.before.before in
-    l.loop.i < count l → c.given-from.result ≡ small (get_or (counted (ns l) (count l)) l.loop.i (pos 0))
+    l.loop-i.i < count l → c.given_from.result ≡ small (get_or (counted (ns l) (count l)) l.loop-i.i (pos 0))
 read c h =
     let l = c.before.before.before in
-    rw (at-declared (ns l) (count l) l.loop.i h) (rw (back w32 (at (ns l) l.loop.i) c.before.given-from-arg.given) at c.given-from.ensures)
+    rw (at-declared (ns l) (count l) l.loop-i.i h) (rw (back w32 (at (ns l) l.loop-i.i) c.before.given_from-arg-1.given) at c.given_from.ensures)
 
-loop-holds : tie.Need-loop-init invariant-loop decreases-loop
+loop-holds : tie.Need-loop-i-init invariant-loop decreases-loop
 loop-holds c = (search rules, refl)
 
-returns : tie.Need-returns invariant-loop decreases-loop
+returns : tie.Need-returns-then-not-given_from invariant-loop decreases-loop
 returns c =
     let l = c.before.before.before.before in
-    let h : l.loop.i < count l = omega arith in
-    every_stops small (counted (ns l) (count l)) l.loop.i (pos 0) (omega (arith, length-counted (λ i. at (ns l) i) 0 (count l)))
-    (sym (read c.before h) ∙ not-true c.before.given-from.result c.if1.true) ∙ l.loop.invariant.1
+    let h : l.loop-i.i < count l = omega arith in
+    every_stops small (counted (ns l) (count l)) l.loop-i.i (pos 0) (omega (arith, length-counted (λ i. at (ns l) i) 0 (count l)))
+    (sym (read c.before h) ∙ not-true c.before.given_from.result c.if-not-given_from.true-raw) ∙ l.loop-i.invariant.1
 
-loop-again : tie.Need-loop-preserved invariant-loop decreases-loop
+loop-again : tie.Need-loop-i-preserved invariant-loop decreases-loop
 loop-again c =
     let l = c.before.before.before.before in
-    let h : l.loop.i < count l = omega arith in (
+    let h : l.loop-i.i < count l = omega arith in (
       search rules,
-      every_turn small (counted (ns l) (count l)) l.loop.i (pos 0) (omega (arith, length-counted (λ i. at (ns l) i) 0 (count l)))
-          (sym (read c.before h) ∙ not-false c.before.given-from.result c.if1.false) ∙ l.loop.invariant.1,
+      every_turn small (counted (ns l) (count l)) l.loop-i.i (pos 0) (omega (arith, length-counted (λ i. at (ns l) i) 0 (count l)))
+          (sym (read c.before h) ∙ not-false c.before.given_from.result c.if-not-given_from.false-raw) ∙ l.loop-i.invariant.1,
     )
 
-returns-2 : tie.Need-returns-2 invariant-loop decreases-loop
+returns-2 : tie.Need-returns invariant-loop decreases-loop
 returns-2 c =
     let l = c.before in
-    every-done small (counted (ns l) (count l)) l.loop.i (pos 0) (omega (arith, length-counted (λ i. at (ns l) i) 0 (count l))) ∙ l.loop.invariant.1
+    every-done small (counted (ns l) (count l)) l.loop-i.i (pos 0) (omega (arith, length-counted (λ i. at (ns l) i) 0 (count l))) ∙ l.loop-i.invariant.1
 
 pub numerators_fit_spec : {M : Type 1} → statement M
 numerators_fit_spec =

@@ -44,31 +44,31 @@ sum_fits c =
     let y : nat_abs (get_or s (z.q + z.v) (pos 0)) ≤ entry_limit = rw (entry_at z.v s z.q c.requires.3) at (c.requires.2.small z.v) in
     fits_abs _ (omega (arith, natAbs_add (get_or s (z.p + z.v) (pos 0)) (get_or s (z.q + z.v) (pos 0))))
 
-add-if1-3 : tie.Need-overflow-add-if1-3
+add-if1-3 : tie.Need-overflow_add-from
 add-if1-3 c =
     let s = c.before.before in
     let z = s.args in
-    rw (back w32 (get_or z.from.now (z.p + z.v) (pos 0)) c.before.if12.given, back w32 (get_or z.from.now (z.q + z.v) (pos 0)) c.if13.given) (sum_fits s)
+    rw (back w32 (get_or z.from.now (z.p + z.v) (pos 0)) c.before.t15-1.given, back w32 (get_or z.from.now (z.q + z.v) (pos 0)) c.t19-1.given) (sum_fits s)
 
 -- where it is zero the pair is divided down to what the plain sum is
-alike : (c : tie.Else1) → (let s = c.before.before.before in divided_down (paired s.args.v (first s) (second s)) ≡ divided_down (added (first s) (second s)))
+alike : (c : tie.Else-from-p-ne0) → (let s = c.before.before.before in divided_down (paired s.args.v (first s) (second s)) ≡ divided_down (added (first s) (second s)))
 alike c =
     let s = c.before.before.before in
     let z = s.args in
     let m = z.from.now in
-    let e = rw (back w32 (get_or m (z.p + z.v) (pos 0)) c.before.before.if12.given, back w32 (get_or m (z.q + z.v) (pos 0)) c.before.if13.given) at c.if1.false in
+    let e = rw (back w32 (get_or m (z.p + z.v) (pos 0)) c.before.before.t15-1.given, back w32 (get_or m (z.q + z.v) (pos 0)) c.before.t19-1.given) at c.if-from-p-ne0.false in
     let f : entry z.v (first s) +ℤ entry z.v (second s) ≡ pos 0 =
     rw (entry_at z.v m z.p s.requires.3, entry_at z.v m z.q s.requires.3) (zero_of (sum s) (bits-zero w32 (sum s) (sum_fits s).sfits e)) in
     paired-added z.v (first s) (second s) s.requires.4 f
 
-added-requires : tie.Need-added-requires
+added-requires : tie.Need-added-sum-requires
 added-requires c κs =
     let s = c.before.before.before.before.before in
-    rw (c.before.read.ensures, c.read2.ensures) (s.requires.1.small, s.requires.2.small)
+    rw (c.before.read.ensures, c.read-2.ensures) (s.requires.1.small, s.requires.2.small)
 
 -- the plain sum
-is_sum : (c : tie.After-added) → (let s = c.before.before.before.before.before.before in c.added.result ≡ added (first s) (second s))
-is_sum c = rw (c.before.before.read.ensures, c.before.read2.ensures) at c.added.ensures
+is_sum : (c : tie.After-added-sum) → (let s = c.before.before.before.before.before.before in c.added-sum.result ≡ added (first s) (second s))
+is_sum c = rw (c.before.before.read.ensures, c.before.read-2.ensures) at c.added-sum.ensures
 
 sum-wide : (c : tie.Start) → Wide (added (first c) (second c))
 sum-wide c =
@@ -77,19 +77,19 @@ sum-wide c =
     length-plus (first c).entries (second c).entries (e ∙ sym (wide-row_at m c.args.q c.requires.2.room)) ∙ e
 
 -- with an entry 1 or −1 it is divided down already
-is-limited : (c : tie.Then2) → (let s = c.before.before.before.before.before.before.before.before in divided_down (paired s.args.v (first s) (second s)) ≡ limited (added (first s) (second s)))
+is-limited : (c : tie.Then-has_one) → (let s = c.before.before.before.before.before.before.before.before in divided_down (paired s.args.v (first s) (second s)) ≡ limited (added (first s) (second s)))
 is-limited c =
     let a = c.before.before in
-    alike a.before.before.before ∙ has_one-limited _ (rw (is_sum a) at (sym c.before.has_one.ensures ∙ c.if2.true))
+    alike a.before.before.before ∙ has_one-limited _ (rw (is_sum a) at (sym c.before.has_one.ensures ∙ c.if-has_one.true))
 
-returns : tie.Need-returns
-returns c = rw c.before.before.general-pair.ensures at c.before.put.ensures
+returns : tie.Need-returns-then-from-p-ne0
+returns c = rw c.before.before.general_pair.ensures at c.before.put.ensures
 
 -- within the limit or not
-within : (c : tie.After-within-limit) → (b : Bool) → c.within_limit.result ≡ b → (let s = c.before.before.before.before.before.before.before.before.before.before in all_small (added (first s) (second s)).entries ≡ b)
+within : (c : tie.After-within_limit) → (b : Bool) → c.within_limit.result ≡ b → (let s = c.before.before.before.before.before.before.before.before.before.before in all_small (added (first s) (second s)).entries ≡ b)
 within c b e = rw (is_sum c.before.before.before.before) at (sym c.within_limit.ensures ∙ e)
 
-returns-2 : tie.Need-returns-2
+returns-2 : tie.Need-returns-then-within_limit
 returns-2 c =
     let w = c.before.before.before.before.before in
     let l = w.before.before.before in
@@ -97,25 +97,25 @@ returns-2 c =
     let s = a.before.before.before.before.before.before in
     let r = added (first s) (second s) in
     let back : row_at w.write.new.1.0 0 ≡ r = rw (w.write.ensures, is_sum a) (row_back r _ (sum-wide s)) in
-    rw (is-limited l.before.before ∙ limited-kept r (within l true w.before.before.if3.true)) (rw back at c.before.put-row.ensures)
+    rw (is-limited l.before.before ∙ limited-kept r (within l true w.before.before.if-within_limit.true)) (rw back at c.before.put_row.ensures)
 
-returns-3 : tie.Need-returns-3
+returns-3 : tie.Need-returns-then-has_one
 returns-3 c =
     let l = c.before.before in
     let s = l.before.before.before.before.before.before.before.before.before.before in
     let z = s.args in
-    let e = is-limited l.before.before ∙ limited_large _ (within l false c.before.if3.false) in
-    rw (e, c.refused.ensures) (put_large z.to.now z.c (first s) TooLarge refl)
+    let e = is-limited l.before.before ∙ limited_large _ (within l false c.before.if-within_limit.false) in
+    rw (e, c.refused.ensures) (put_large z.to-1.now z.c (first s) TooLarge refl)
 
-returns-4 : tie.Need-returns-4
+returns-4 : tie.Need-returns
 returns-4 c =
     let p = c.before in
     let d = p.before.before.before.before in
     let a = d.before.before.before.before in
     let s = a.before.before.before.before.before.before in
     let r = added (first s) (second s) in
-    let back : row_at d.divided-into.new.1.0 0 ≡ (divided_down r).row = rw (d.divided-into.ensures.1, is_sum a) (row_back (divided_down r).row [] (settled_wide r (sum-wide s))) in
-    rw (alike a.before.before.before) (rw (back, d.divided-into.ensures.0, is_sum a) at p.put_settled.ensures)
+    let back : row_at d.divided_into-fate.new.1.0 0 ≡ (divided_down r).row = rw (d.divided_into-fate.ensures.1, is_sum a) (row_back (divided_down r).row [] (settled_wide r (sum-wide s))) in
+    rw (alike a.before.before.before) (rw (back, d.divided_into-fate.ensures.0, is_sum a) at p.put_settled.ensures)
 
 pub join_pair_spec : {M : Type 1} → statement M
 join_pair_spec =

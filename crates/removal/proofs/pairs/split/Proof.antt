@@ -14,43 +14,43 @@ use Rattle.removal.proofs.Places.{below-read, zero-read, other_read, zero-only, 
 use Rattle.removal.proofs.pairs.split.Statement.{statement}
 use Rattle.removal.proofs.pairs.split.Tie as tie
 
-abbrev invariant-loop : tie.invariant-loop
+abbrev invariant-loop : tie.invariant-loop-i
 invariant-loop from n v to₀ lowers₀ uppers₀ k₀ l₀ u₀ i₀ to lowers uppers k l u i =
     (i ≤ n) × (k ≤ i) × (l ≤ i) × (u ≤ i) × (length to ≡ length to₀) × (length lowers ≡ length lowers₀) × (length uppers ≡ length uppers₀) ×
     (k ≡ length (untouched v (set_in from i))) × (to ≡ with_rows (untouched v (set_in from i)) to₀) ×
     (take l lowers ≡ numbers_where isBelow v from i) × (take u uppers ≡ numbers_where isAbove v from i)
 
-abbrev decreases-loop : tie.decreases-loop
+abbrev decreases-loop : tie.decreases-loop-i
 decreases-loop from n v to₀ lowers₀ uppers₀ k₀ l₀ u₀ i₀ to lowers uppers k l u i = n - i
 
-loop-holds : tie.Need-loop-init invariant-loop decreases-loop
+loop-holds : tie.Need-loop-i-init invariant-loop decreases-loop
 unfolding numbers_where
-loop-holds c = (omega arith, omega arith, omega arith, omega arith, refl, refl, refl, rw untouched-none refl, rw untouched-none (sym (with_rows-none c.before.before.args.to.now)), refl, refl)
+loop-holds c = (omega arith, omega arith, omega arith, omega arith, refl, refl, refl, rw untouched-none refl, rw untouched-none (sym (with_rows-none c.before.before.args.to-1.now)), refl, refl)
 
-loop-again : tie.Need-loop-preserved invariant-loop decreases-loop
+loop-again : tie.Need-loop-i-preserved invariant-loop decreases-loop
 loop-again c =
     let t = c.before in
     let l = t.before.before in
     let s = l.before.before.before in
     let z = s.args in
     let m = z.from.now in
-    let o = l.loop in
+    let o = l.loop-i in
     let i = o.i in
     let v = z.v in
     let e = entry v (row_of m i) in
     let lows = number_passed isBelow v m i o.lowers o.l o.invariant.9 in
     let ups = number_passed isAbove v m i o.uppers o.u o.invariant.10 in
-    let rest = untouched-passed v m i o.k o.to z.to.now o.invariant.7 o.invariant.8 in
-    let other = other_read v m (i * 17) s.requires.1 t.e.given in
+    let rest = untouched-passed v m i o.k o.to-1 z.to-1.now o.invariant.7 o.invariant.8 in
+    let other = other_read v m (i * 17) s.requires.1 t.e-1.given in
     ⊎_elim
     (λ w.
-    let zero = zero-read v m (i * 17) s.requires.1 t.e.given w.0.taken in
+    let zero = zero-read v m (i * 17) s.requires.1 t.e-1.given w.0.taken in
     let only = zero-only e zero in
-    let d = untouched-kept v m i o.k o.to z.to.now o.invariant.7 o.invariant.8 (omega (arith, s.requires.0.stands.room)) zero _ _ w.1.ensures w.3.ensures in
+    let d = untouched-kept v m i o.k o.to-1 z.to-1.now o.invariant.7 o.invariant.8 (omega (arith, s.requires.0.stands.room)) zero _ _ w.1.ensures w.3.ensures in
     rw (w.5, w.6, w.7, w.8, w.9, w.10) (omega arith, omega arith, omega arith, omega arith, w.4.given ∙ o.invariant.4, o.invariant.5, o.invariant.6, d.0, d.1, lows only.0, ups only.1))
     (⊎_elim
     (λ w.
-    let low = below-read v m (i * 17) s.requires.1 t.e.given w.1.taken in
+    let low = below-read v m (i * 17) s.requires.1 t.e-1.given w.1.taken in
     let d = rest (other w.0.left) in
     rw (w.2, w.3, w.4, w.5, w.6, w.7) (
       omega arith,
@@ -66,7 +66,7 @@ loop-again c =
       ups (below-only e low),
     ))
     (λ w.
-    let low = below-read v m (i * 17) s.requires.1 t.e.given w.1.left in
+    let low = below-read v m (i * 17) s.requires.1 t.e-1.given w.1.left in
     let none = other w.0.left in
     let d = rest none in
     rw (w.2, w.3, w.4, w.5, w.6, w.7) (
@@ -82,13 +82,13 @@ loop-again c =
       lows low,
       number_listed isAbove v m i o.uppers o.u o.invariant.10 (omega (arith, s.requires.0.few)) (above-left e none low),
     )))
-    c.if1.branch
+    c.if-e-eq0.branch
 
 returns : tie.Need-returns invariant-loop decreases-loop
 returns c =
     let l = c.before in
     let s = l.before.before.before in
-    let o = l.loop in
+    let o = l.loop-i in
     let e : o.i ≡ s.args.n = omega arith in
     let lows = rw e at o.invariant.9 in
     let ups = rw e at o.invariant.10 in
@@ -119,7 +119,7 @@ split_spec =
     (λ c. omega arith)
     (λ c. omega arith)
     loop-again
-    (λ c. c.before.loop.invariant.4)
-    (λ c. c.before.loop.invariant.5)
-    (λ c. c.before.loop.invariant.6)
+    (λ c. c.before.loop-i.invariant.4)
+    (λ c. c.before.loop-i.invariant.5)
+    (λ c. c.before.loop-i.invariant.6)
     returns)

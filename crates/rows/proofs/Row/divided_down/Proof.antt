@@ -16,7 +16,7 @@ returns : tie.Need-returns
 returns c =
     let d = c.before.before.before in
     let r = d.before.before.args.self in
-    rw (d.divided-into.ensures.0, c.read.ensures, d.divided-into.ensures.1, row_back (divided_down r).row [] (settled_wide r (long d.before.before)))
+    rw (d.divided_into-fate.ensures.0, c.read.ensures, d.divided_into-fate.ensures.1, row_back (divided_down r).row [] (settled_wide r (long d.before.before)))
 
 pub divided_down_spec : {M : Type 1} → statement M
 divided_down_spec =

@@ -23,17 +23,17 @@ entry : (c : tie.Start) (i : ℕ) → nat_abs (get_or c.args.self.entries i (pos
 entry c i = search i32_field
 
 -- whether a variable is named, by the first entry that is not 0
-named : (c : tie.After-first-variable) (b : Bool) → is_zero c.first-variable.result ≡ b → all_zero (drop 1 c.before.before.args.self.entries) ≡ b
-named c b e = sym (first-zero (drop 1 c.before.before.args.self.entries)) ∙ ap is_zero (sym c.first-variable.ensures) ∙ e
+named : (c : tie.After-first_variable-x) (b : Bool) → is_zero c.first_variable-x.result ≡ b → all_zero (drop 1 c.before.before.args.self.entries) ≡ b
+named c b e = sym (first-zero (drop 1 c.before.before.args.self.entries)) ∙ ap is_zero (sym c.first_variable-x.ensures) ∙ e
 
-returns : tie.Need-returns
+returns : tie.Need-returns-then-x-eq0
 returns c =
     let k = c.before.before.before in
     let f = k.before.before.before in
     let r = f.before.before.args.self in
     let q : k.constant.result ≡ divided_down r =
     rw k.before.widened.ensures at k.constant.ensures
-    ∙ down_constant r.entries r.strict (named f true (bits-zero w32 f.first-variable.result f.first-variable.type-inv k.before.before.if1.true)) in
+    ∙ down_constant r.entries r.strict (named f true (bits-zero w32 f.first_variable-x.result f.first_variable-x.type-inv k.before.before.if-x-eq0.true)) in
     rw q at c.before.give.ensures
 
 -- of any number but the least the sign can be turned
@@ -41,31 +41,31 @@ above-least : (x : ℤ) → mag x < 2 ^ 31 → le_z (negsuc 2147483646) x ≡ tr
 above-least (pos n) h e = h
 above-least (negsuc n) h e = omega (arith, leb-true n 2147483646 e)
 
-is-level-requires : tie.Need-is-level-requires
+is-level-requires : tie.Need-is_level-requires
 is-level-requires c κs =
-    let x = c.before.before.first-variable in
-    rw (back w32 x.result x.type-inv) (above-least x.result x.type-inv (rw (back w32 x.result x.type-inv) at c.if2.true))
+    let x = c.before.before.first_variable-x in
+    rw (back w32 x.result x.type-inv) (above-least x.result x.type-inv (rw (back w32 x.result x.type-inv) at c.if-x-geminus2147483647.true))
 
-returns-2 : tie.Need-returns-2
+returns-2 : tie.Need-returns-then-is_level
 returns-2 c =
     let w = c.before in
     let g = w.before.before in
     let t = g.before.before in
     let f = t.before.before.before in
     let r = f.before.before.args.self in
-    let x = f.first-variable in
-    let some = zero_bits w32 x.result t.before.before.if1.false in
-    let q = level_down r (named f false some) x.result some (sym (rw (back w32 x.result x.type-inv) at t.is_level.ensures) ∙ g.before.if3.true) in
+    let x = f.first_variable-x in
+    let some = zero_bits w32 x.result t.before.before.if-x-eq0.false in
+    let q = level_down r (named f false some) x.result some (sym (rw (back w32 x.result x.type-inv) at t.is_level.ensures) ∙ g.before.if-is_level.true) in
     rw (← q) (refl, rw g.signs.ensures at w.write.ensures)
 
 lowered-requires : tie.Need-lowered-requires
-lowered-requires c κs i = rw c.widened2.ensures (omega (arith, entry c.before.before.before.before.before i))
+lowered-requires c κs i = rw c.widened-2.ensures (omega (arith, entry c.before.before.before.before.before i))
 
-returns-3 : tie.Need-returns-3
+returns-3 : tie.Need-returns
 returns-3 c =
     let d = c.before.before.before in
-    let q : d.lowered.result ≡ divided_down d.before.before.before.before.before.before.args.self = rw d.before.widened2.ensures at d.lowered.ensures in
-    rw q at c.before.give2.ensures
+    let q : d.lowered.result ≡ divided_down d.before.before.before.before.before.before.args.self = rw d.before.widened-2.ensures at d.lowered.ensures in
+    rw q at c.before.give-2.ensures
 
 pub divided_into_spec : {M : Type 1} → statement M
 divided_into_spec =

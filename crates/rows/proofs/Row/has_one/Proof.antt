@@ -16,8 +16,8 @@ use Rattle.rows.specs.Rows.{at, has_unit, has_one}
 use Rattle.rows.proofs.Row.has_one.Statement.{statement}
 use Rattle.rows.proofs.Row.has_one.Tie as tie
 
-unit : (c : tie.Then1) → has_unit c.before.before.before.args.self.entries ≡ true
-unit c = sym c.before.has_unit.ensures ∙ c.if1.true
+unit : (c : tie.Then-has_unit) → has_unit c.before.before.before.args.self.entries ≡ true
+unit c = sym c.before.has_unit.ensures ∙ c.if-has_unit.true
 
 -- the constant is neither 1 nor −1: below −1, above 1, or else 0
 below : (z : ℤ) → lt_z z (negsuc 0) ≡ true → true ≡ not (eqb (nat_abs z) 1)
@@ -35,30 +35,30 @@ between (pos (suc (suc n))) e f = absurd (omega (arith, ltb-false 1 (suc (suc n)
 between (negsuc zero) e f = refl
 between (negsuc (suc n)) e f = absurd (omega (arith, ltb-false 0 (suc n) e))
 
-returns : tie.Need-returns
+returns : tie.Need-returns-then-c-ltminus1
 unfolding has_one
 returns c =
     let l = c.before.before.before.before.before.args.self.entries in
-    rw (unit c.before.before) (below (at l 0) (rw (back w32 (at l 0) c.before.c.given) at c.if2.true))
+    rw (unit c.before.before) (below (at l 0) (rw (back w32 (at l 0) c.before.c-1.given) at c.if-c-ltminus1.true))
 
-returns-2 : tie.Need-returns-2
+returns-2 : tie.Need-returns-then-c-gt1
 unfolding has_one
 returns-2 c =
     let d = c.before.before in
     let l = d.before.before.before.before.args.self.entries in
-    rw (unit d.before) (above (at l 0) (rw (back w32 (at l 0) d.c.given) at c.if3.true))
+    rw (unit d.before) (above (at l 0) (rw (back w32 (at l 0) d.c-1.given) at c.if-c-gt1.true))
 
-returns-3 : tie.Need-returns-3
+returns-3 : tie.Need-returns-then-has_unit
 unfolding has_one
 returns-3 c =
     let d = c.before.before in
     let z = at d.before.before.before.before.args.self.entries 0 in
-    let e = back w32 z d.c.given in
-    rw (unit d.before) (zero_test w32 z d.c.given ∙ between z (rw e at c.before.if2.false) (rw e at c.if3.false))
+    let e = back w32 z d.c-1.given in
+    rw (unit d.before) (zero_test w32 z d.c-1.given ∙ between z (rw e at c.before.if-c-ltminus1.false) (rw e at c.if-c-gt1.false))
 
-returns-4 : tie.Need-returns-4
+returns-4 : tie.Need-returns
 unfolding has_one
-returns-4 c = rw (sym c.before.has_unit.ensures ∙ c.if1.false)
+returns-4 c = rw (sym c.before.has_unit.ensures ∙ c.if-has_unit.false)
 
 pub has_one_spec : {M : Type 1} → statement M
 has_one_spec =

@@ -11,25 +11,25 @@ use Rattle.integers.proofs.Loops.{front, front-none, front-more, front-map}
 use Rattle.rows.proofs.Row.negated.Statement.{statement}
 use Rattle.rows.proofs.Row.negated.Tie as tie
 
-abbrev invariant-loop : tie.invariant-loop
+abbrev invariant-loop : tie.invariant-loop-i
 invariant-loop self from to₀ i₀ to i = (i ≤ 16) × (to ≡ front (λ k. neg_ℤ (get_or self.entries k (pos 0))) i (replicate 16 (pos 0)))
 
-abbrev decreases-loop : tie.decreases-loop
+abbrev decreases-loop : tie.decreases-loop-i
 decreases-loop self from to₀ i₀ to i = 16 - i
 
-loop-holds : tie.Need-loop-init invariant-loop decreases-loop
+loop-holds : tie.Need-loop-i-init invariant-loop decreases-loop
 loop-holds c = (search rules, front-none _ _)
 
-fit : (c : tie.After-turned-arg invariant-loop decreases-loop) → SFits w32 (get_or c.before.before.before.before.args.self.entries c.before.before.loop.i (pos 0))
-fit c = record { sfits = c.turned-arg.given }
+fit : (c : tie.After-turned-arg-1 invariant-loop decreases-loop) → SFits w32 (get_or c.before.before.before.before.args.self.entries c.before.before.loop-i.i (pos 0))
+fit c = record { sfits = c.turned-arg-1.given }
 
 turned-requires : tie.Need-turned-requires invariant-loop decreases-loop
-turned-requires c κs = rw (to_z-of_z (fit c)) (omega (arith, c.before.before.before.before.requires c.before.before.loop.i))
+turned-requires c κs = rw (to_z-of_z (fit c)) (omega (arith, c.before.before.before.before.requires c.before.before.loop-i.i))
 
-loop-again : tie.Need-loop-preserved invariant-loop decreases-loop
+loop-again : tie.Need-loop-i-preserved invariant-loop decreases-loop
 loop-again c = (
   search rules,
-  front-more _ _ _ _ _ c.before.before.before.loop.invariant.1
+  front-more _ _ _ _ _ c.before.before.before.loop-i.invariant.1
       (rw (to_z-of_z (record { sfits = c.turned.type-inv })) (c.turned.ensures ∙ ap neg_ℤ (to_z-of_z (fit c.before)))),
 )
 
@@ -37,8 +37,8 @@ returns : tie.Need-returns invariant-loop decreases-loop
 returns c =
     let s = c.before.before.before.before in
     let a : length s.args.self.entries ≡ 16 = search rules in
-    let e : c.before.before.loop.i ≡ length s.args.self.entries = omega arith in
-    rw (c.before.before.loop.invariant.1, e, front-map neg_ℤ (pos 0) s.args.self.entries (replicate 16 (pos 0)) (sym a))
+    let e : c.before.before.loop-i.i ≡ length s.args.self.entries = omega arith in
+    rw (c.before.before.loop-i.invariant.1, e, front-map neg_ℤ (pos 0) s.args.self.entries (replicate 16 (pos 0)) (sym a))
 
 pub negated_spec : {M : Type 1} → statement M
 negated_spec =

@@ -19,45 +19,45 @@ flags c =
     flag_order (is_one (get_or z.s.now (z.a + 16) (pos 0))) (is_one (get_or z.t.now (z.b + 16) (pos 0)))
 
 -- the order of the rows by that of the front blocks
-by_front : (c : tie.After-order-of-four) (o : Order) → c.order-of-four.result ≡ o →
+by_front : (c : tie.After-order_of_four-o) (o : Order) → c.order_of_four-o.result ≡ o →
     let z = c.before.args in
     then_by (then_blocks z.s.now z.t.now z.a z.b o) (flags c.before) ≡ row_order (row_at z.s.now z.a) (row_at z.t.now z.b)
 by_front c o e =
     let z = c.before.args in
-    row-blocks z.s.now z.t.now z.a z.b o (omega arith) (omega arith) (sym c.order-of-four.ensures ∙ e)
+    row-blocks z.s.now z.t.now z.a z.b o (omega arith) (omega arith) (sym c.order_of_four-o.ensures ∙ e)
 
-order-of-four-requires-2 : tie.Need-order-of-four-requires-2
+order-of-four-requires-2 : tie.Need-order_of_four-requires
 order-of-four-requires-2 c κs =
     let d = c.before in
     let s = d.before.before.before.before in
     let z = s.args in
-    let h = other_found z.s.now z.t.now z.a z.b (flags s) (rw d.first_other.ensures at c.if1.true) in
-    rw d.first_other.ensures (omega arith, omega arith)
+    let h = other_found z.s.now z.t.now z.a z.b (flags s) (rw d.first_other-k.ensures at c.if-k-lt-ENTRIES.true) in
+    rw d.first_other-k.ensures (omega arith, omega arith)
 
-returns : tie.Need-returns
+returns : tie.Need-returns-then-k-lt-ENTRIES
 returns c =
     let d = c.before.before in
     let f = d.before.before.before in
     let z = f.before.args in
-    let h = other_found z.s.now z.t.now z.a z.b (flags f.before) (rw d.first_other.ensures at c.before.if1.true) in
-    c.order-of-four2.ensures ∙ (rw d.first_other.ensures h.1) ∙ by_front f Same d.before.enum-told3.given.1
+    let h = other_found z.s.now z.t.now z.a z.b (flags f.before) (rw d.first_other-k.ensures at c.before.if-k-lt-ENTRIES.true) in
+    c.order_of_four.ensures ∙ (rw d.first_other-k.ensures h.1) ∙ by_front f Same d.before.enum_told-in-Same-1.given.1
 
-returns-2 : tie.Need-returns-2
-returns-2 c = by_front c.before.before Before c.enum_told.given.1
+returns-2 : tie.Need-returns-in-Before
+returns-2 c = by_front c.before.before Before c.enum_told-1.given.1
 
-returns-3 : tie.Need-returns-3
-returns-3 c = by_front c.before.before After c.enum-told2.given.1
+returns-3 : tie.Need-returns-in-After
+returns-3 c = by_front c.before.before After c.enum_told-in-After-1.given.1
 
-returns-4 : tie.Need-returns-4
+returns-4 : tie.Need-returns-else-k-lt-ENTRIES
 returns-4 c =
     let q = c.before in
     let p = q.before in
     let d = p.before.before in
     let f = d.before.before.before in
     let z = f.before.args in
-    (rw (flag-read (get_or z.s.now (z.a + 16) (pos 0)) p.order-of-flags-arg.given, flag-read (get_or z.t.now (z.b + 16) (pos 0)) q.order-of-flags-arg2.given) at c.order-of-flags.ensures) ∙
-    other_none z.s.now z.t.now z.a z.b (flags f.before) (rw d.first_other.ensures at p.before.if1.false) ∙
-    by_front f Same d.before.enum-told3.given.1
+    (rw (flag-read (get_or z.s.now (z.a + 16) (pos 0)) p.order_of_flags-arg-1.given, flag-read (get_or z.t.now (z.b + 16) (pos 0)) q.order_of_flags-arg-in-Same-1.given) at c.order_of_flags.ensures) ∙
+    other_none z.s.now z.t.now z.a z.b (flags f.before) (rw d.first_other-k.ensures at p.before.if-k-lt-ENTRIES.false) ∙
+    by_front f Same d.before.enum_told-in-Same-1.given.1
 
 pub order_in_spec : {M : Type 1} → statement M
 order_in_spec =

@@ -15,31 +15,31 @@ use Rattle.rows.proofs.Row.paired.Tie as tie
 turned-requires : tie.Need-turned-requires
 turned-requires c κs =
     let s = c.before.before.before.before.before in
-    rw (back w32 _ c.turned-arg.given) (omega (arith, s.requires.2 s.args.v))
+    rw (back w32 _ c.turned-arg-1.given) (omega (arith, s.requires.2 s.args.v))
 
 -- the two factors
-first : (c : tie.After-wide) → let z = c.before.before.before.before.args in to_z w64 (of_z w64 c.wide.result) ≡ at z.self.entries z.v
-first c = back w64 c.wide.result c.wide.type-inv ∙ c.wide.ensures ∙ back w32 _ c.before.wide-arg.given
+first : (c : tie.After-wide-a) → let z = c.before.before.before.before.args in to_z w64 (of_z w64 c.wide-a.result) ≡ at z.self.entries z.v
+first c = back w64 c.wide-a.result c.wide-a.type-inv ∙ c.wide-a.ensures ∙ back w32 _ c.before.wide-arg-1.given
 
-second : (c : tie.After-wide2) → let z = c.before.before.before.before.before.before.before.args in to_z w64 (of_z w64 c.wide2.result) ≡ neg_ℤ (at z.other.entries z.v)
+second : (c : tie.After-wide-b) → let z = c.before.before.before.before.before.before.before.args in to_z w64 (of_z w64 c.wide-b.result) ≡ neg_ℤ (at z.other.entries z.v)
 second c =
     let s = c.before.before.before.before.before.before.before.args in
     let t = c.before.turned in
-    back w64 c.wide2.result c.wide2.type-inv ∙ c.wide2.ensures ∙ back w32 t.result t.type-inv ∙ t.ensures ∙
-    ap neg_ℤ (back w32 (at s.other.entries s.v) c.before.before.turned-arg.given)
+    back w64 c.wide-b.result c.wide-b.type-inv ∙ c.wide-b.ensures ∙ back w32 t.result t.type-inv ∙ t.ensures ∙
+    ap neg_ℤ (back w32 (at s.other.entries s.v) c.before.before.turned-arg-1.given)
 
 combined-requires : tie.Need-combined-requires
 combined-requires c κs =
     let d = c.before.before in
     let s = d.before.before.before.before.before.before.before in
-    rw (c.before.widened.ensures, c.widened2.ensures, first d.before.before.before, second d, natAbs_neg)
+    rw (c.before.widened.ensures, c.widened-2.ensures, first d.before.before.before, second d, natAbs_neg)
     (s.requires.1, s.requires.2, s.requires.1 s.args.v, s.requires.2 s.args.v)
 
 -- what is divided down is the combination
 sum : (c : tie.After-combined) → let z = c.before.before.before.before.before.before.before.before.before.before.args in c.combined.result ≡ (paired z.v z.self z.other).entries
 sum c =
     let d = c.before.before.before in
-    rw (c.combined.ensures, c.before.before.widened.ensures, c.before.widened2.ensures, first d.before.before.before, second d)
+    rw (c.combined.ensures, c.before.before.widened.ensures, c.before.widened-2.ensures, first d.before.before.before, second d)
 
 lowered-requires : tie.Need-lowered-requires
 lowered-requires c κs =

@@ -13,21 +13,21 @@ use Rattle.rows.proofs.Stores.{front-part, flag-read}
 use Rattle.rows.proofs.Row.read.Statement.{statement}
 use Rattle.rows.proofs.Row.read.Tie as tie
 
-abbrev invariant-loop : tie.invariant-loop
+abbrev invariant-loop : tie.invariant-loop-i
 invariant-loop s at to₀ i₀ to i = (i ≤ 16) × (to ≡ front (λ k. get_or s (at + k) (pos 0)) i (replicate 16 (pos 0)))
 
-abbrev decreases-loop : tie.decreases-loop
+abbrev decreases-loop : tie.decreases-loop-i
 decreases-loop s at to₀ i₀ to i = 16 - i
 
-loop-again : tie.Need-loop-preserved invariant-loop decreases-loop
-loop-again c = (search rules, front-more _ _ _ _ _ c.before.before.loop.invariant.1 (back w32 _ c.to.given))
+loop-again : tie.Need-loop-i-preserved invariant-loop decreases-loop
+loop-again c = (search rules, front-more _ _ _ _ _ c.before.before.loop-i.invariant.1 (back w32 _ c.to-1.given))
 
 returns : tie.Need-returns invariant-loop decreases-loop
 returns c =
     let s = c.before.before.before in
-    let e : c.before.before.loop.i ≡ 16 = omega arith in
+    let e : c.before.before.loop-i.i ≡ 16 = omega arith in
     let z = get_or s.args.s.now (s.args.at + 16) (pos 0) in
-    rw (c.before.before.loop.invariant.1, e, front-part 16 s.args.at s.args.s.now (replicate 16 (pos 0)) refl (omega arith), flag-read z c.t17.given)
+    rw (c.before.before.loop-i.invariant.1, e, front-part 16 s.args.at s.args.s.now (replicate 16 (pos 0)) refl (omega arith), flag-read z c.result-1.given)
 
 pub read_spec : {M : Type 1} → statement M
 read_spec =

@@ -17,11 +17,11 @@ use Rattle.rows.proofs.Row.value.Statement.{statement}
 use Rattle.rows.proofs.Row.value.Tie as tie
 
 -- a signed local is its bits in an invariant: `to_z w64 sum` is the number
-abbrev invariant-loop : tie.invariant-loop
+abbrev invariant-loop : tie.invariant-loop-i
 invariant-loop at e sum₀ i₀ sum i =
     (i ≤ 9) × (nat_abs (to_z w64 sum) ≤ i * 1000000000000000) × (to_z w64 sum +ℤ dot (drop i e) (drop i at) ≡ dot e at)
 
-abbrev decreases-loop : tie.decreases-loop
+abbrev decreases-loop : tie.decreases-loop-i
 decreases-loop at e sum₀ i₀ sum i = 9 - i
 
 module _ (e at : List ℤ) (i : ℕ) (h : i < length e) (k : i < length at) (s t : ℤ) (is : t ≡ s +ℤ get_or e i (pos 0) *ℤ get_or at i (pos 0)) where
@@ -32,43 +32,43 @@ module _ (e at : List ℤ) (i : ℕ) (h : i < length e) (k : i < length at) (s t
   grows : nat_abs (get_or e i (pos 0)) * nat_abs (get_or at i (pos 0)) ≤ 1000000000000000 → nat_abs s ≤ i * 1000000000000000 → nat_abs t ≤ (i + 1) * 1000000000000000
   grows b l = rw is (omega (arith, natAbs_add s (get_or e i (pos 0) *ℤ get_or at i (pos 0)), nat_abs_mul (get_or e i (pos 0)) (get_or at i (pos 0))))
 
-abbrev entry : tie.At-loop invariant-loop decreases-loop → ℤ
-entry l = get_or l.before.before.args.self.entries l.loop.i (pos 0)
+abbrev entry : tie.At-loop-i invariant-loop decreases-loop → ℤ
+entry l = get_or l.before.before.args.self.entries l.loop-i.i (pos 0)
 
-abbrev number : tie.At-loop invariant-loop decreases-loop → ℤ
-number l = get_or l.before.before.args.t2 l.loop.i (pos 0)
+abbrev number : tie.At-loop-i invariant-loop decreases-loop → ℤ
+number l = get_or l.before.before.args.t2 l.loop-i.i (pos 0)
 
-x-is : (c : tie.After-plus-product-arg invariant-loop decreases-loop) → to_z w64 (of_z w64 c.before.wide.result) ≡ entry c.before.before.before.before
+x-is : (c : tie.After-plus_product-arg-1 invariant-loop decreases-loop) → to_z w64 (of_z w64 c.before.wide.result) ≡ entry c.before.before.before.before
 x-is c =
     let w = c.before.wide in
-    back w64 w.result w.type-inv ∙ w.ensures ∙ back w32 (entry c.before.before.before.before) c.before.before.wide-arg.given
+    back w64 w.result w.type-inv ∙ w.ensures ∙ back w32 (entry c.before.before.before.before) c.before.before.wide-arg-1.given
 
-y-is : (c : tie.After-plus-product-arg invariant-loop decreases-loop) → to_z w64 (of_z w64 (number c.before.before.before.before)) ≡ number c.before.before.before.before
-y-is c = back w64 (number c.before.before.before.before) c.plus-product-arg.given
+y-is : (c : tie.After-plus_product-arg-1 invariant-loop decreases-loop) → to_z w64 (of_z w64 (number c.before.before.before.before)) ≡ number c.before.before.before.before
+y-is c = back w64 (number c.before.before.before.before) c.plus_product-arg-1.given
 
-small : (l : tie.At-loop invariant-loop decreases-loop) → nat_abs (entry l) * nat_abs (number l) ≤ 1000000000000000
-small l = mul-le-mul (l.before.before.requires.0 l.loop.i) (l.before.before.requires.1 l.loop.i)
+small : (l : tie.At-loop-i invariant-loop decreases-loop) → nat_abs (entry l) * nat_abs (number l) ≤ 1000000000000000
+small l = mul-le-mul (l.before.before.requires.0 l.loop-i.i) (l.before.before.requires.1 l.loop-i.i)
 
-plus-product-requires : tie.Need-plus-product-requires invariant-loop decreases-loop
+plus-product-requires : tie.Need-plus_product-sum-requires invariant-loop decreases-loop
 plus-product-requires c κs =
     let l = c.before.before.before.before in
     rw (x-is c, y-is c) (omega arith, omega (arith, small l))
 
-loop-again : tie.Need-loop-preserved invariant-loop decreases-loop
+loop-again : tie.Need-loop-i-preserved invariant-loop decreases-loop
 loop-again c =
     let d = c.before in
     let l = d.before.before.before.before in
     let s = l.before.before in
-    let p = c.plus-product in
+    let p = c.plus_product-sum in
     let a : length s.args.self.entries ≡ 16 = search rules in
     let b : length s.args.t2 ≡ 9 = search rules in
-    let h : l.loop.i < length s.args.self.entries = omega arith in
-    let k : l.loop.i < length s.args.t2 = omega arith in
+    let h : l.loop-i.i < length s.args.self.entries = omega arith in
+    let k : l.loop-i.i < length s.args.t2 = omega arith in
     let t = to_z w64 (of_z w64 p.result) in
-    let is : t ≡ to_z w64 l.loop.sum +ℤ entry l *ℤ number l = back w64 p.result p.type-inv ∙ (rw (x-is d, y-is d) at p.ensures) in (
+    let is : t ≡ to_z w64 l.loop-i.sum-bits +ℤ entry l *ℤ number l = back w64 p.result p.type-inv ∙ (rw (x-is d, y-is d) at p.ensures) in (
       search rules,
-      grows s.args.self.entries s.args.t2 l.loop.i h k (to_z w64 l.loop.sum) t is (small l) l.loop.invariant.1,
-      turn s.args.self.entries s.args.t2 l.loop.i h k (to_z w64 l.loop.sum) t is ∙ l.loop.invariant.2,
+      grows s.args.self.entries s.args.t2 l.loop-i.i h k (to_z w64 l.loop-i.sum-bits) t is (small l) l.loop-i.invariant.1,
+      turn s.args.self.entries s.args.t2 l.loop-i.i h k (to_z w64 l.loop-i.sum-bits) t is ∙ l.loop-i.invariant.2,
     )
 
 returns : tie.Need-returns invariant-loop decreases-loop
@@ -76,7 +76,7 @@ returns c =
     let l = c.before in
     let s = l.before.before in
     let a : length s.args.t2 ≡ 9 = search rules in
-    sym (+ℤ_idr (to_z w64 l.loop.sum)) ∙ (rw (drop-done s.args.t2 l.loop.i (omega arith), dot-nil) at l.loop.invariant.2)
+    sym (+ℤ_idr (to_z w64 l.loop-i.sum-bits)) ∙ (rw (drop-done s.args.t2 l.loop-i.i (omega arith), dot-nil) at l.loop-i.invariant.2)
 
 pub value_spec : {M : Type 1} → statement M
 value_spec =

@@ -13,28 +13,28 @@ use Rattle.rows.proofs.Stores.{number_more, number_last}
 use Rattle.rows.proofs.Row.write.Statement.{statement}
 use Rattle.rows.proofs.Row.write.Tie as tie
 
-abbrev invariant-loop : tie.invariant-loop
+abbrev invariant-loop : tie.invariant-loop-i
 invariant-loop self s₀ at from i₀ s i = (i ≤ 16) × (length s ≡ length s₀) × (s ≡ paste s₀ at (numbers self) i)
 
-abbrev decreases-loop : tie.decreases-loop
+abbrev decreases-loop : tie.decreases-loop-i
 decreases-loop self s₀ at from i₀ s i = 16 - i
 
 long : (c : tie.Start invariant-loop decreases-loop) → length c.args.self.entries ≡ 16
 long c = search rules
 
-loop-holds : tie.Need-loop-init invariant-loop decreases-loop
+loop-holds : tie.Need-loop-i-init invariant-loop decreases-loop
 loop-holds c =
     let z = c.before.args in
-    (search rules, refl, paste-zero z.s.now z.at (numbers z.self))
+    (search rules, refl, paste-zero z.s-1.now z.at (numbers z.self))
 
-loop-again : tie.Need-loop-preserved invariant-loop decreases-loop
+loop-again : tie.Need-loop-i-preserved invariant-loop decreases-loop
 loop-again c =
     let l = c.before.before in
     let s = l.before.before in
     let z = s.args in (
       search rules,
-      simp length-set l.loop.invariant.1,
-      number_more z.s.now l.loop.s z.at z.self (long s) s.requires l.loop.i _ (omega arith) l.loop.invariant.2 (back w32 _ c.s.given),
+      simp length-set l.loop-i.invariant.1,
+      number_more z.s-1.now l.loop-i.s-1 z.at z.self (long s) s.requires l.loop-i.i _ (omega arith) l.loop-i.invariant.2 (back w32 _ c.s-1.given),
     )
 
 returns : tie.Need-returns invariant-loop decreases-loop
@@ -42,9 +42,9 @@ returns c =
     let l = c.before.before in
     let s = l.before.before in
     let z = s.args in
-    let f = c.number-of-flag in
-    let e : l.loop.i ≡ 16 = omega arith in
-    number_last z.s.now l.loop.s z.at z.self (long s) s.requires _ (rw e at l.loop.invariant.2) (back w32 f.result f.type-inv ∙ f.ensures)
+    let f = c.number_of_flag in
+    let e : l.loop-i.i ≡ 16 = omega arith in
+    number_last z.s-1.now l.loop-i.s-1 z.at z.self (long s) s.requires _ (rw e at l.loop-i.invariant.2) (back w32 f.result f.type-inv ∙ f.ensures)
 
 pub write_spec : {M : Type 1} → statement M
 write_spec =
@@ -63,5 +63,5 @@ write_spec =
     (λ c. search rules)
     (λ c. omega arith)
     (λ c. omega arith)
-    (λ c. simp length-set c.before.before.loop.invariant.1)
+    (λ c. simp length-set c.before.before.loop-i.invariant.1)
     returns)

@@ -4,16 +4,16 @@ use Rattle.zimbralosa.proofs.Counts.{placed-put, placed-kept}
 use Rattle.zimbralosa.proofs.exports.put_placed.Statement.{statement}
 use Rattle.zimbralosa.proofs.exports.put_placed.Tie as tie
 
-returns : tie.Need-returns
+returns : tie.Need-returns-then-answer-ge2
 returns c = let s = c.before.before.before.before in record {
   number = c.number.ensures;
-  answer = placed-put s.args.p s.args.answer.now _ c.before.bit-of.ensures c.before.before.if1.true;
+  answer = placed-put s.args.p s.args.answer.now _ c.before.bit_of.ensures c.before.before.if-answer-ge2.true;
 }
 
-returns-2 : tie.Need-returns-2
+returns-2 : tie.Need-returns
 returns-2 c = let s = c.before.before.before in record {
-  number = c.number2.ensures;
-  answer = placed-kept s.args.p s.args.answer.now c.before.if1.false;
+  number = c.number-2.ensures;
+  answer = placed-kept s.args.p s.args.answer.now c.before.if-answer-ge2.false;
 }
 
 pub put_placed_spec : {M : Type 1} → statement M
