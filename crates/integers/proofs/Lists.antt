@@ -75,8 +75,9 @@ module _ {A : Type 0} where
   every-all f (x ∷ l) e = cons (and_left (f x) (every f l) e) (every-all f l (and_right (f x) (every f l) e))
 
   pub all_in : {P : A → Type 0} {x : A} {l : List A} → All P l → In x l → P x
-  all_in {P} (cons h t) (here e) = subst P (sym e) h
-  all_in (cons h t) (there i) = all_in t i
+  all_in {P = P} nil i = elim i [ ]
+  all_in {P = P} (cons h t) (here e) = subst P (sym e) h
+  all_in {P = P} (cons h t) (there i) = all_in t i
 
   -- one element more behind the others
   pub every_last : (f : A → Bool) (l : List A) (x : A) → every f (l ++ x ∷ []) ≡ (every f l && f x)
