@@ -20,21 +20,21 @@ invariant-loop x y to₀ i₀ to i = (i ≤ 16) × (to ≡ front (λ k. get_or x
 abbrev decreases-loop : tie.decreases-loop-i
 decreases-loop x y to₀ i₀ to i = 16 - i
 
-sum : (s : tie.Start invariant-loop decreases-loop) (i : ℕ) → SFits w32 (get_or s.args.t1 i (pos 0) +ℤ get_or s.args.t2 i (pos 0))
-sum s i = let x = s.requires.0 i in let y = s.requires.1 i in fits_abs _ (omega (arith, natAbs_add (get_or s.args.t1 i (pos 0)) (get_or s.args.t2 i (pos 0))))
+sum : (s : tie.Start invariant-loop decreases-loop) (i : ℕ) → SFits w32 (get_or s.args.x i (pos 0) +ℤ get_or s.args.y i (pos 0))
+sum s i = let x = s.requires.0 i in let y = s.requires.1 i in fits_abs _ (omega (arith, natAbs_add (get_or s.args.x i (pos 0)) (get_or s.args.y i (pos 0))))
 
 add-to : tie.Need-overflow_add-to invariant-loop decreases-loop
 add-to c =
     let l = c.before.before.before in
-    let x = get_or l.before.args.t1 l.loop-i.i (pos 0) in
-    let y = get_or l.before.args.t2 l.loop-i.i (pos 0) in
+    let x = get_or l.before.args.x l.loop-i.i (pos 0) in
+    let y = get_or l.before.args.y l.loop-i.i (pos 0) in
     rw (back w32 x c.before.to-1.given, back w32 y c.to-in-loop-i-1.given) (sum l.before l.loop-i.i)
 
 loop-again : tie.Need-loop-i-preserved invariant-loop decreases-loop
 loop-again c =
     let l = c.before.before.before in
-    let x = get_or l.before.args.t1 l.loop-i.i (pos 0) in
-    let y = get_or l.before.args.t2 l.loop-i.i (pos 0) in (
+    let x = get_or l.before.args.x l.loop-i.i (pos 0) in
+    let y = get_or l.before.args.y l.loop-i.i (pos 0) in (
       search rules,
       front-more _ _ _ _ _ l.loop-i.invariant.1
           (rw (back w32 x c.before.to-1.given, back w32 y c.to-in-loop-i-1.given) (to_z-of_z (sum l.before l.loop-i.i))),
@@ -43,8 +43,8 @@ loop-again c =
 returns : tie.Need-returns invariant-loop decreases-loop
 returns c =
     let s = c.before.before in
-    let x = s.args.t1 in
-    let y = s.args.t2 in
+    let x = s.args.x in
+    let y = s.args.y in
     let a : length x ≡ 16 = search rules in
     let b : length y ≡ 16 = search rules in
     let e : c.before.loop-i.i ≡ length x = omega arith in

@@ -28,26 +28,26 @@ decreases-loop l i₀ i = 16 - i
 
 -- the entry that the test is of, and its magnitude
 abbrev entry : tie.At-loop-i invariant-loop decreases-loop → ℤ
-entry c = get_or c.before.args.t1 c.loop-i.i (pos 0)
+entry c = get_or c.before.args.l c.loop-i.i (pos 0)
 
 read : (c : tie.After-magnitude invariant-loop decreases-loop) → c.magnitude.result ≡ nat_abs (entry c.before.before.before)
 read c = c.magnitude.ensures ∙ ap nat_abs (back w64 (entry c.before.before.before) c.before.magnitude-arg-1.given)
 
-long : (c : tie.Start invariant-loop decreases-loop) → length c.args.t1 ≡ 16
+long : (c : tie.Start invariant-loop decreases-loop) → length c.args.l ≡ 16
 long c = search rules
 
 returns : tie.Need-returns-then-magnitude invariant-loop decreases-loop
 unfolding all_small
 returns c =
     let s = c.before.before.before.before in
-    every_stops small s.before.args.t1 s.loop-i.i (pos 0) (omega (arith, long s.before))
+    every_stops small s.before.args.l s.loop-i.i (pos 0) (omega (arith, long s.before))
     (lt-leb _ _ (rw (read c.before) at c.if-magnitude.true)) ∙ s.loop-i.invariant.1
 
 loop-again : tie.Need-loop-i-preserved invariant-loop decreases-loop
 loop-again c =
     let s = c.before.before.before.before in (
       search rules,
-      every_turn small s.before.args.t1 s.loop-i.i (pos 0) (omega (arith, long s.before))
+      every_turn small s.before.args.l s.loop-i.i (pos 0) (omega (arith, long s.before))
           (le-leb _ _ (rw (read c.before) at c.if-magnitude.false)) ∙ s.loop-i.invariant.1,
     )
 
@@ -55,7 +55,7 @@ returns-2 : tie.Need-returns invariant-loop decreases-loop
 unfolding all_small
 returns-2 c =
     let s = c.before in
-    every-done small s.before.args.t1 s.loop-i.i (pos 0) (omega (arith, long s.before)) ∙ s.loop-i.invariant.1
+    every-done small s.before.args.l s.loop-i.i (pos 0) (omega (arith, long s.before)) ∙ s.loop-i.invariant.1
 
 pub all_small_spec : {M : Type 1} → statement M
 all_small_spec =

@@ -27,8 +27,8 @@ combined-requires : tie.Need-combined-requires invariant-loop decreases-loop
 combined-requires c κs =
     let s = c.before.before.before.before in
     let i = c.before.before.before.loop-i.i in
-    let x = get_or s.args.t1 i (pos 0) in
-    let y = get_or s.args.t2 i (pos 0) in
+    let x = get_or s.args.x i (pos 0) in
+    let y = get_or s.args.y i (pos 0) in
     rw (back w64 x c.before.combined-arg-1.given, back w64 y c.combined-arg-in-loop-i-1.given, to_z-of_z s.ranges.a, to_z-of_z s.ranges.b)
     (s.requires.0 i, s.requires.1 i, s.requires.2, s.requires.3)
 
@@ -39,15 +39,15 @@ loop-again c =
     let m = mix (to_z w64 (of_z w64 z.a)) (to_z w64 (of_z w64 z.b)) in (
       search rules,
       front-more _ _ _ _ _ s.loop-i.invariant.1
-          (back w64 c.combined.result c.combined.type-inv ∙ c.combined.ensures ∙
-          ap₂ m (back w64 (get_or z.t1 s.loop-i.i (pos 0)) c.before.before.combined-arg-1.given) (back w64 (get_or z.t2 s.loop-i.i (pos 0)) c.before.combined-arg-in-loop-i-1.given)),
+          (back w64 c.combined.result c.combined.type_inv ∙ c.combined.ensures ∙
+          ap₂ m (back w64 (get_or z.x s.loop-i.i (pos 0)) c.before.before.combined-arg-1.given) (back w64 (get_or z.y s.loop-i.i (pos 0)) c.before.combined-arg-in-loop-i-1.given)),
     )
 
 returns : tie.Need-returns invariant-loop decreases-loop
 returns c =
     let s = c.before.before in
-    let x = s.args.t1 in
-    let y = s.args.t2 in
+    let x = s.args.x in
+    let y = s.args.y in
     let a : length x ≡ 16 = search rules in
     let b : length y ≡ 16 = search rules in
     let e : c.before.loop-i.i ≡ length x = omega arith in

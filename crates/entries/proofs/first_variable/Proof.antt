@@ -34,20 +34,20 @@ module _ (l : List ℤ) (i : ℕ) where
   unfolding first_nonzero
   done h = rw (drop-done l i h)
 
-long : (c : tie.Start invariant-loop decreases-loop) → length c.args.t1 ≡ 16
+long : (c : tie.Start invariant-loop decreases-loop) → length c.args.l ≡ 16
 long c = search rules
 
 returns : tie.Need-returns-then-l-i-ne0 invariant-loop decreases-loop
 returns c =
     let s = c.before.before.before.before in
-    let l = s.before.args.t1 in
+    let l = s.before.args.l in
     let z = get_or l s.loop-i.i (pos 0) in
     back w32 z c.result-1.given ∙ stops l s.loop-i.i (omega (arith, long s.before)) (zero_bits w32 z c.before.if-l-i-ne0.true) ∙ s.loop-i.invariant.1
 
 loop-again : tie.Need-loop-i-preserved invariant-loop decreases-loop
 loop-again c =
     let s = c.before.before.before in
-    let l = s.before.args.t1 in (
+    let l = s.before.args.l in (
       search rules,
       turn l s.loop-i.i (omega (arith, long s.before)) (bits-zero w32 (get_or l s.loop-i.i (pos 0)) c.before.t8-1.given c.if-l-i-ne0.false) ∙ s.loop-i.invariant.1,
     )
@@ -55,7 +55,7 @@ loop-again c =
 returns-2 : tie.Need-returns invariant-loop decreases-loop
 returns-2 c =
     let s = c.before in
-    done s.before.args.t1 s.loop-i.i (omega (arith, long s.before)) ∙ s.loop-i.invariant.1
+    done s.before.args.l s.loop-i.i (omega (arith, long s.before)) ∙ s.loop-i.invariant.1
 
 pub first_variable_spec : {M : Type 1} → statement M
 first_variable_spec =

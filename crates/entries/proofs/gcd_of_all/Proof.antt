@@ -27,7 +27,7 @@ loop-again : tie.Need-loop-i-preserved invariant-loop decreases-loop
 loop-again c =
     let m = c.before.magnitude in
     let s = c.before.before.before.before in
-    let l = s.before.args.t1 in
+    let l = s.before.args.l in
     let a : length l ≡ 16 = search rules in
     let z = get_or l s.loop-i.i (pos 0) in
     let e : m.result ≡ nat_abs z = m.ensures ∙ ap nat_abs (back w64 z c.before.before.magnitude-arg-1.given) in
@@ -35,7 +35,7 @@ loop-again c =
 
 returns : tie.Need-returns invariant-loop decreases-loop
 returns c =
-    let l = c.before.before.args.t1 in
+    let l = c.before.before.args.l in
     let a : length l ≡ 16 = search rules in
     rw (drop-done l c.before.loop-i.i (omega arith)) at c.before.loop-i.invariant.1
 

@@ -53,16 +53,16 @@ module _ (x : ℤ) (l : List ℤ) (i : ℕ) (found : Bool) where
   unfolding has
   done h = rw (drop-done l i h) (sym (or-false found))
 
-long : (c : tie.Start invariant-loop decreases-loop) → length c.args.t1 ≡ 16
+long : (c : tie.Start invariant-loop decreases-loop) → length c.args.l ≡ 16
 long c = search rules
 
 loop-again : tie.Need-loop-i-preserved invariant-loop decreases-loop
 loop-again c =
     let s = c.before.before in
-    let l = s.before.args.t1 in
+    let l = s.before.args.l in
     let x = s.before.args.x in (
       search rules,
-      rw (to_z-of_z s.before.ranges.x) (turn x l s.loop-i.i s.loop-i.found-1 _ (omega (arith, long s.before)) (tested (get_or l s.loop-i.i (pos 0)) x c.found-1.given s.before.ranges.x.sfits))
+      rw (to_z-of_z s.before.ranges.x) (turn x l s.loop-i.i s.loop-i.found _ (omega (arith, long s.before)) (tested (get_or l s.loop-i.i (pos 0)) x c.found-1.given s.before.ranges.x.sfits))
           ∙ s.loop-i.invariant.1,
     )
 
@@ -70,7 +70,7 @@ returns : tie.Need-returns invariant-loop decreases-loop
 returns c =
     let s = c.before in
     rw (to_z-of_z s.before.ranges.x) at
-    (done (to_z w32 (of_z w32 s.before.args.x)) s.before.args.t1 s.loop-i.i s.loop-i.found-1 (omega (arith, long s.before)) ∙ s.loop-i.invariant.1)
+    (done (to_z w32 (of_z w32 s.before.args.x)) s.before.args.l s.loop-i.i s.loop-i.found (omega (arith, long s.before)) ∙ s.loop-i.invariant.1)
 
 pub has_spec : {M : Type 1} → statement M
 has_spec =

@@ -34,7 +34,7 @@ three false true c = refl
 three false false true = refl
 three false false false = refl
 
-long : (c : tie.Start invariant-loop decreases-loop) → length c.args.t1 ≡ 16
+long : (c : tie.Start invariant-loop decreases-loop) → length c.args.l ≡ 16
 long c = search rules
 
 sub-y : tie.Need-overflow_sub-y invariant-loop decreases-loop
@@ -43,7 +43,7 @@ sub-y c = let x = c.args.x in rw (to_z-of_z c.ranges.x, +ℤ_idl (neg_ℤ x)) (f
 loop-again : tie.Need-loop-i-preserved invariant-loop decreases-loop
 loop-again c =
     let s = c.before.before in
-    let l = s.before.args.t1 in
+    let l = s.before.args.l in
     let x = s.before.args.x in
     let z = get_or l s.loop-i.i (pos 0) in
     let tested = ap₂ {C = Bool} (λ a b. a || b) (sym (zero_test w32 z c.z-1.given)) (sym (either-sign w32 z x c.z-1.given s.before.requires)) ∙ three (eqb (of_z w32 z) 0) (eqb (of_z w32 z) (of_z w32 x)) (eqb (of_z w32 z) (of_z w32 (neg_ℤ x))) in (
@@ -57,7 +57,7 @@ unfolding is_level
 returns c =
     let s = c.before in
     rw (to_z-of_z s.before.ranges.x) at
-    (flag-done (level (to_z w32 (of_z w32 s.before.args.x))) s.before.args.t1 s.loop-i.i (pos 0) s.loop-i.other (omega (arith, long s.before)) ∙ s.loop-i.invariant.1)
+    (flag-done (level (to_z w32 (of_z w32 s.before.args.x))) s.before.args.l s.loop-i.i (pos 0) s.loop-i.other (omega (arith, long s.before)) ∙ s.loop-i.invariant.1)
 
 pub is_level_spec : {M : Type 1} → statement M
 is_level_spec =

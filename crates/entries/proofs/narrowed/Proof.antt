@@ -22,12 +22,12 @@ loop-again c =
     let h = c.narrow in (
       search rules,
       front-more _ _ _ _ _ c.before.before.before.loop-i.invariant.1
-          (back w32 h.result h.type-inv ∙ h.ensures ∙ (back w64 (get_or c.before.before.before.before.args.t1 c.before.before.before.loop-i.i (pos 0)) c.before.narrow-arg-1.given)),
+          (back w32 h.result h.type_inv ∙ h.ensures ∙ (back w64 (get_or c.before.before.before.before.args.l c.before.before.before.loop-i.i (pos 0)) c.before.narrow-arg-1.given)),
     )
 
 returns : tie.Need-returns invariant-loop decreases-loop
 returns c =
-    let l = c.before.before.args.t1 in
+    let l = c.before.before.args.l in
     let a : length l ≡ 16 = search rules in
     let e : c.before.loop-i.i ≡ length l = omega arith in
     rw (c.before.loop-i.invariant.1, e) (front_same (pos 0) l (replicate 16 (pos 0)) (sym a))

@@ -23,12 +23,12 @@ loop-again c =
     let h = c.quotient in (
       search rules,
       front-more _ _ _ _ _ c.before.before.before.loop-i.invariant.1
-          (back w64 h.result h.type-inv ∙ h.ensures ∙ ap (λ (z : ℤ). quot_z z (pos c.before.before.before.before.args.d)) (back w64 (get_or c.before.before.before.before.args.t1 c.before.before.before.loop-i.i (pos 0)) c.before.quotient-arg-1.given)),
+          (back w64 h.result h.type_inv ∙ h.ensures ∙ ap (λ (z : ℤ). quot_z z (pos c.before.before.before.before.args.d)) (back w64 (get_or c.before.before.before.before.args.l c.before.before.before.loop-i.i (pos 0)) c.before.quotient-arg-1.given)),
     )
 
 returns : tie.Need-returns invariant-loop decreases-loop
 returns c =
-    let l = c.before.before.args.t1 in
+    let l = c.before.before.args.l in
     let a : length l ≡ 16 = search rules in
     let e : c.before.loop-i.i ≡ length l = omega arith in
     rw (c.before.loop-i.invariant.1, e) (front-map (λ z. quot_z z (pos c.before.before.args.d)) (pos 0) l (replicate 16 (pos 0)) (sym a))

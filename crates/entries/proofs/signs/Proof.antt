@@ -24,12 +24,12 @@ loop-again c =
     let h = c.sign in (
       search rules,
       front-more _ _ _ _ _ s.loop-i.invariant.1
-          (back w32 h.result h.type-inv ∙ h.ensures ∙ ap sign (back w32 (get_or s.before.args.t1 s.loop-i.i (pos 0)) c.before.sign-arg-1.given)),
+          (back w32 h.result h.type_inv ∙ h.ensures ∙ ap sign (back w32 (get_or s.before.args.l s.loop-i.i (pos 0)) c.before.sign-arg-1.given)),
     )
 
 returns : tie.Need-returns invariant-loop decreases-loop
 returns c =
-    let l = c.before.before.args.t1 in
+    let l = c.before.before.args.l in
     let a : length l ≡ 16 = search rules in
     let e : c.before.loop-i.i ≡ length l = omega arith in
     rw (c.before.loop-i.invariant.1, e) (front-map sign (pos 0) l (replicate 16 (pos 0)) (sym a))

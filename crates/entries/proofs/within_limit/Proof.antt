@@ -26,13 +26,13 @@ invariant-loop l beyond₀ i₀ beyond i = (i ≤ 16) × ((not beyond && every s
 abbrev decreases-loop : tie.decreases-loop-i
 decreases-loop l beyond₀ i₀ beyond i = 16 - i
 
-long : (c : tie.Start invariant-loop decreases-loop) → length c.args.t1 ≡ 16
+long : (c : tie.Start invariant-loop decreases-loop) → length c.args.l ≡ 16
 long c = search rules
 
 loop-again : tie.Need-loop-i-preserved invariant-loop decreases-loop
 loop-again c =
     let s = c.before.before in
-    let l = s.before.args.t1 in
+    let l = s.before.args.l in
     let z = get_or l s.loop-i.i (pos 0) in (
       search rules,
       rw (back w32 z c.x-1.given) (flag_turn small l s.loop-i.i (pos 0) s.loop-i.beyond _ (omega (arith, long s.before)) (one-small z)) ∙ s.loop-i.invariant.1,
@@ -42,7 +42,7 @@ returns : tie.Need-returns invariant-loop decreases-loop
 unfolding all_small
 returns c =
     let s = c.before in
-    flag-done small s.before.args.t1 s.loop-i.i (pos 0) s.loop-i.beyond (omega (arith, long s.before)) ∙ s.loop-i.invariant.1
+    flag-done small s.before.args.l s.loop-i.i (pos 0) s.loop-i.beyond (omega (arith, long s.before)) ∙ s.loop-i.invariant.1
 
 pub within_limit_spec : {M : Type 1} → statement M
 within_limit_spec =

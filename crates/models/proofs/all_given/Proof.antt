@@ -25,16 +25,16 @@ invariant-loop e i₀ i = (i ≤ 16) × (every small (drop i e) ≡ every small 
 abbrev decreases-loop : tie.decreases-loop-i
 decreases-loop e i₀ i = 16 - i
 
-long : (c : tie.Start invariant-loop decreases-loop) → length c.args.t1 ≡ 16
+long : (c : tie.Start invariant-loop decreases-loop) → length c.args.e ≡ 16
 long c = search rules
 
 abbrev entry : tie.At-loop-i invariant-loop decreases-loop → ℤ
-entry l = get_or l.before.args.t1 l.loop-i.i (pos 0)
+entry l = get_or l.before.args.e l.loop-i.i (pos 0)
 
 read : (c : tie.After-magnitude invariant-loop decreases-loop) → c.magnitude.result ≡ nat_abs (entry c.before.before.before.before)
 read c =
     let w = c.before.wide in
-    c.magnitude.ensures ∙ ap nat_abs (back w64 w.result w.type-inv ∙ w.ensures ∙ back w32 (entry c.before.before.before.before) c.before.before.wide-arg-1.given)
+    c.magnitude.ensures ∙ ap nat_abs (back w64 w.result w.type_inv ∙ w.ensures ∙ back w32 (entry c.before.before.before.before) c.before.before.wide-arg-1.given)
 
 loop-holds : tie.Need-loop-i-init invariant-loop decreases-loop
 loop-holds c = (search rules, refl)
@@ -42,19 +42,19 @@ loop-holds c = (search rules, refl)
 returns : tie.Need-returns-then-magnitude-gt1000000 invariant-loop decreases-loop
 returns c =
     let l = c.before.before.before.before.before in
-    every_stops small l.before.args.t1 l.loop-i.i (pos 0) (omega (arith, long l.before)) (lt-leb _ _ (rw (read c.before) at c.if-magnitude-gt1000000.true)) ∙ l.loop-i.invariant.1
+    every_stops small l.before.args.e l.loop-i.i (pos 0) (omega (arith, long l.before)) (lt-leb _ _ (rw (read c.before) at c.if-magnitude-gt1000000.true)) ∙ l.loop-i.invariant.1
 
 loop-again : tie.Need-loop-i-preserved invariant-loop decreases-loop
 loop-again c =
     let l = c.before.before.before.before.before in (
       search rules,
-      every_turn small l.before.args.t1 l.loop-i.i (pos 0) (omega (arith, long l.before)) (le-leb _ _ (rw (read c.before) at c.if-magnitude-gt1000000.false)) ∙ l.loop-i.invariant.1,
+      every_turn small l.before.args.e l.loop-i.i (pos 0) (omega (arith, long l.before)) (le-leb _ _ (rw (read c.before) at c.if-magnitude-gt1000000.false)) ∙ l.loop-i.invariant.1,
     )
 
 returns-2 : tie.Need-returns invariant-loop decreases-loop
 returns-2 c =
     let l = c.before in
-    every-done small l.before.args.t1 l.loop-i.i (pos 0) (omega (arith, long l.before)) ∙ l.loop-i.invariant.1
+    every-done small l.before.args.e l.loop-i.i (pos 0) (omega (arith, long l.before)) ∙ l.loop-i.invariant.1
 
 pub all_given_spec : {M : Type 1} → statement M
 all_given_spec =

@@ -19,7 +19,7 @@ invariant-loop e i₀ i = (i ≤ 16) × (every is_zero (drop i e) ≡ every is_z
 abbrev decreases-loop : tie.decreases-loop-i
 decreases-loop e i₀ i = 16 - i
 
-long : (c : tie.Start invariant-loop decreases-loop) → length c.args.t1 ≡ 16
+long : (c : tie.Start invariant-loop decreases-loop) → length c.args.e ≡ 16
 long c = search rules
 
 loop-holds : tie.Need-loop-i-init invariant-loop decreases-loop
@@ -28,13 +28,13 @@ loop-holds c = (search rules, refl)
 returns : tie.Need-returns-then-e-i-ne0 invariant-loop decreases-loop
 returns c =
     let l = c.before.before.before in
-    let e = l.before.args.t1 in
+    let e = l.before.args.e in
     every_stops is_zero e l.loop-i.i (pos 0) (omega (arith, long l.before)) (zero_bits w32 (get_or e l.loop-i.i (pos 0)) c.if-e-i-ne0.true) ∙ l.loop-i.invariant.1
 
 loop-again : tie.Need-loop-i-preserved invariant-loop decreases-loop
 loop-again c =
     let l = c.before.before.before in
-    let e = l.before.args.t1 in (
+    let e = l.before.args.e in (
       search rules,
       every_turn is_zero e l.loop-i.i (pos 0) (omega (arith, long l.before))
           (bits-zero w32 (get_or e l.loop-i.i (pos 0)) c.before.t8-1.given c.if-e-i-ne0.false) ∙ l.loop-i.invariant.1,
@@ -43,7 +43,7 @@ loop-again c =
 returns-2 : tie.Need-returns invariant-loop decreases-loop
 returns-2 c =
     let l = c.before in
-    every-done is_zero l.before.args.t1 l.loop-i.i (pos 0) (omega (arith, long l.before)) ∙ l.loop-i.invariant.1
+    every-done is_zero l.before.args.e l.loop-i.i (pos 0) (omega (arith, long l.before)) ∙ l.loop-i.invariant.1
 
 pub all_zero_spec : {M : Type 1} → statement M
 all_zero_spec =

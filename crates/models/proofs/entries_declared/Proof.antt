@@ -21,13 +21,13 @@ invariant-loop h kind e i₀ i = (i ≤ 16) × (entries_declared h kind i (drop 
 abbrev decreases-loop : tie.decreases-loop-i
 decreases-loop h kind e i₀ i = 16 - i
 
-long : (c : tie.Start invariant-loop decreases-loop) → length c.args.t3 ≡ 16
+long : (c : tie.Start invariant-loop decreases-loop) → length c.args.e ≡ 16
 long c = search rules
 
 -- the test, of the entry that the machine reads
 read : (c : tie.After-is_named invariant-loop decreases-loop) →
     let l = c.before.before.before in
-    c.is_named.result ≡ (is_zero (get_or l.before.args.t3 l.loop-i.i (pos 0)) || entry_declared l.before.args.h l.before.args.kind l.loop-i.i)
+    c.is_named.result ≡ (is_zero (get_or l.before.args.e l.loop-i.i (pos 0)) || entry_declared l.before.args.h l.before.args.kind l.loop-i.i)
 read c = rw (back w32 _ c.before.is_named-arg-1.given) at c.is_named.ensures
 
 loop-holds : tie.Need-loop-i-init invariant-loop decreases-loop
@@ -36,21 +36,21 @@ loop-holds c = (search rules, refl)
 returns : tie.Need-returns-then-not-is_named invariant-loop decreases-loop
 returns c =
     let l = c.before.before.before.before in
-    named_stops l.before.args.h l.before.args.kind l.before.args.t3 l.loop-i.i (omega (arith, long l.before))
+    named_stops l.before.args.h l.before.args.kind l.before.args.e l.loop-i.i (omega (arith, long l.before))
     (sym (read c.before) ∙ not-true c.before.is_named.result c.if-not-is_named.true-raw) ∙ l.loop-i.invariant.1
 
 loop-again : tie.Need-loop-i-preserved invariant-loop decreases-loop
 loop-again c =
     let l = c.before.before.before.before in (
       search rules,
-      named_turn l.before.args.h l.before.args.kind l.before.args.t3 l.loop-i.i (omega (arith, long l.before))
+      named_turn l.before.args.h l.before.args.kind l.before.args.e l.loop-i.i (omega (arith, long l.before))
           (sym (read c.before) ∙ not-false c.before.is_named.result c.if-not-is_named.false-raw) ∙ l.loop-i.invariant.1,
     )
 
 returns-2 : tie.Need-returns invariant-loop decreases-loop
 returns-2 c =
     let l = c.before in
-    named-done l.before.args.h l.before.args.kind l.before.args.t3 l.loop-i.i (omega (arith, long l.before)) ∙ l.loop-i.invariant.1
+    named-done l.before.args.h l.before.args.kind l.before.args.e l.loop-i.i (omega (arith, long l.before)) ∙ l.loop-i.invariant.1
 
 pub entries_declared_spec : {M : Type 1} → statement M
 entries_declared_spec =

@@ -30,7 +30,7 @@ loop-holds c =
     rw c.with-c.ensures (search rules, refl, r, ready_left s _ r, growing_none s, making_start s c.before.args.n)
 
 -- in a turn: where the row is read, and what was put
-settled : (c : tie.After-divided_down invariant-loop decreases-loop) → (let l = c.before.before.before.before.before in c.divided_down.result ≡ divided_down (row_at l.loop-i.s-1 (l.loop-i.i * 17)))
+settled : (c : tie.After-divided_down invariant-loop decreases-loop) → (let l = c.before.before.before.before.before in c.divided_down.result ≡ divided_down (row_at l.loop-i.s (l.loop-i.i * 17)))
 settled c = rw c.before.read.ensures at c.divided_down.ensures
 
 loop-again : tie.Need-loop-i-preserved invariant-loop decreases-loop
@@ -39,7 +39,7 @@ loop-again c =
     let t = p.before.before.before.before.before in
     let l = t.before in
     let b = l.before.before in
-    let s = l.loop-i.s-1 in
+    let s = l.loop-i.s in
     let i = l.loop-i.i in
     let v = l.loop-i.invariant in
     let r = row_at s (i * 17) in
@@ -60,7 +60,7 @@ returns : tie.Need-returns invariant-loop decreases-loop
 returns c =
     let l = c.before in
     let z = l.before.before.args in
-    rw (← l.loop-i.invariant.5, put_all-done z.s-1.now 0 z.n l.loop-i.i (omega arith) (progress l.loop-i.s-1 l.loop-i.c)) l.loop-i.invariant.3
+    rw (← l.loop-i.invariant.5, put_all-done z.s-1.now 0 z.n l.loop-i.i (omega arith) (progress l.loop-i.s l.loop-i.c)) l.loop-i.invariant.3
 
 pub make_set_spec : {M : Type 1} → statement M
 make_set_spec =

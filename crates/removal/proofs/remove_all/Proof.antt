@@ -24,7 +24,7 @@ remove-next-requires c κs =
     let b = l.before.before in
     let z = b.args in
     let v = variable_at z.variables.now l.loop-i.i b.requires.1 t.loop-i-test.true in
-    (turned-between z.variables.now z.first-1.now z.second-1.now z.s b.requires.0 l.loop-i.i l.loop-i.first-1 l.loop-i.second-1 l.loop-i.done l.loop-i.invariant.1, v.0, v.1)
+    (turned-between z.variables.now z.first-1.now z.second-1.now z.s b.requires.0 l.loop-i.i l.loop-i.first l.loop-i.second l.loop-i.done l.loop-i.invariant.1, v.0, v.1)
 
 loop-again : tie.Need-loop-i-preserved invariant-loop decreases-loop
 loop-again c =
@@ -34,7 +34,7 @@ loop-again c =
     let b = l.before.before in
     let z = b.args in (
       omega arith,
-      turned_more z.variables.now z.first-1.now z.second-1.now z.s b.requires.0 l.loop-i.i l.loop-i.first-1 l.loop-i.second-1 l.loop-i.done l.loop-i.invariant.1
+      turned_more z.variables.now z.first-1.now z.second-1.now z.s b.requires.0 l.loop-i.i l.loop-i.first l.loop-i.second l.loop-i.done l.loop-i.invariant.1
           t.loop-i-test.true _ _ _ n.remove_next-done.ensures,
     )
 

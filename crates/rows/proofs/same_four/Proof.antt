@@ -23,7 +23,7 @@ loop-again c =
     let z = l.before.args in
     let p = l.before.requires in (
       search rules,
-      same_turn z.s.now z.t.now z.a z.b p.0 p.1 l.loop-i.i l.loop-i.same-1 c.before.before.loop-i-test.true c.before.same-1.given c.same-in-loop-i-1.given
+      same_turn z.s.now z.t.now z.a z.b p.0 p.1 l.loop-i.i l.loop-i.same c.before.before.loop-i-test.true c.before.same-1.given c.same-in-loop-i-1.given
           ∙ l.loop-i.invariant.1,
     )
 
@@ -32,7 +32,7 @@ returns c =
     let l = c.before in
     let z = l.before.args in
     let p = l.before.requires in
-    and_all l.loop-i.same-1 _ (ap is_same (rest-done z.s.now z.t.now z.a z.b p.0 p.1 l.loop-i.i c.loop-i-test.false)) ∙ l.loop-i.invariant.1
+    and_all l.loop-i.same _ (ap is_same (rest-done z.s.now z.t.now z.a z.b p.0 p.1 l.loop-i.i c.loop-i-test.false)) ∙ l.loop-i.invariant.1
 
 pub same_four_spec : {M : Type 1} → statement M
 same_four_spec =

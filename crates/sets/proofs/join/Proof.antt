@@ -59,7 +59,7 @@ returns : tie.Need-returns invariant-loop decreases-loop
 returns c =
     let l = c.before in
     let z = l.before.before.args in
-    rw (← l.loop-i.invariant.4, put_all-done z.from.now z.at z.m l.loop-i.i (omega arith) (progress l.loop-i.to-1 l.loop-i.c)) l.loop-i.invariant.3
+    rw (← l.loop-i.invariant.4, put_all-done z.from.now z.at z.m l.loop-i.i (omega arith) (progress l.loop-i.to l.loop-i.c)) l.loop-i.invariant.3
 
 pub join_spec : {M : Type 1} → statement M
 join_spec =

@@ -27,7 +27,7 @@ loop-again c =
     let is = l.loop-i.invariant.2 in (
       search rules,
       simp length-set l.loop-i.invariant.1,
-      copy_more s l.loop-i.s-1 z.at 17 l.loop-i.i h room is _ (back w32 _ c.s-1.given ∙ copy_read s l.loop-i.s-1 z.at 17 l.loop-i.i h room is),
+      copy_more s l.loop-i.s z.at 17 l.loop-i.i h room is _ (back w32 _ c.s-1.given ∙ copy_read s l.loop-i.s z.at 17 l.loop-i.i h room is),
     )
 
 returns : tie.Need-returns invariant-loop decreases-loop

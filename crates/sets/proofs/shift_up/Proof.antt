@@ -29,11 +29,11 @@ loop-again c =
     let s = z.s-1.now in
     let a = (l.loop-i.i - 1) * 17 in
     let e : l.loop-i.i * 17 ≡ a + 17 = omega arith in
-    let is : l.loop-i.s-1 ≡ paste s (a + 17 + 17) (drop (a + 17) s) (z.n * 17 - (a + 17)) = rw e at l.loop-i.invariant.3 in (
+    let is : l.loop-i.s ≡ paste s (a + 17 + 17) (drop (a + 17) s) (z.n * 17 - (a + 17)) = rw e at l.loop-i.invariant.3 in (
       omega arith,
       omega arith,
       c.s-1.given ∙ l.loop-i.invariant.2,
-      m.move_up.ensures ∙ moved_more s l.loop-i.s-1 a (z.n * 17) 17 (omega arith) l.before.requires.1 is,
+      m.move_up.ensures ∙ moved_more s l.loop-i.s a (z.n * 17) 17 (omega arith) l.before.requires.1 is,
     )
 
 returns : tie.Need-returns invariant-loop decreases-loop

@@ -22,7 +22,7 @@ up c =
     let z = s.args.z in
     let b = to_z-of_z s.ranges.z in
     let u = up_is z (rw b at c.before.if-z-lt0.true) s.ranges.z.sfits in
-    let w : to_z w64 (of_z w64 c.wide-up.result) ≡ z = back w64 c.wide-up.result c.wide-up.type-inv ∙ c.wide-up.ensures ∙ b in
+    let w : to_z w64 (of_z w64 c.wide-up.result) ≡ z = back w64 c.wide-up.result c.wide-up.type_inv ∙ c.wide-up.ensures ∙ b in
     (rw w u.0, u.1)
 
 not-below : (c : tie.Else-z-lt0) → lt_z c.before.args.z (pos 0) ≡ false

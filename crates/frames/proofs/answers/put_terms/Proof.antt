@@ -20,19 +20,19 @@ invariant-loop to₀ at e next₀ i₀ to next i = (i ≤ 16) × (length to ≡ 
 abbrev decreases-loop : tie.decreases-loop-i
 decreases-loop to₀ at e next₀ i₀ to next i = 16 - i
 
-long : (c : tie.Start invariant-loop decreases-loop) → length c.args.t3 ≡ 16
+long : (c : tie.Start invariant-loop decreases-loop) → length c.args.e ≡ 16
 long c = search rules
 
 -- the entry that a turn looks at, its digits, and those that come after
 module _ (l : tie.At-loop-i invariant-loop decreases-loop) where
   abbrev e : List ℤ
-  e = l.before.before.args.t3
+  e = l.before.before.args.e
 
   abbrev z : ℤ
   z = get_or e l.loop-i.i (pos 0)
 
   now-digits : l.loop-i.i < 16 → Going (digits_of (terms_of 0 e)) l.before.before.args.at l.before.before.args.to-1.now
-      (digits_of (term_bytes l.loop-i.i z) ++ digits_of (terms_of (l.loop-i.i + 1) (drop (l.loop-i.i + 1) e))) l.loop-i.next l.loop-i.to-1
+      (digits_of (term_bytes l.loop-i.i z) ++ digits_of (terms_of (l.loop-i.i + 1) (drop (l.loop-i.i + 1) e))) l.loop-i.next l.loop-i.to
   now-digits h = rw (terms_digits e l.loop-i.i (omega (arith, long l.before.before))) at l.loop-i.inv.2
 
 put-term-requires : tie.Need-put_term-next-requires invariant-loop decreases-loop
@@ -61,7 +61,7 @@ unfolding digits_of
 returns c =
     let l = c.before in
     let s = l.before.before in
-    going_end _ s.args.at s.args.to-1.now l.loop-i.next l.loop-i.to-1 (rw (terms-done (e l) l.loop-i.i (omega (arith, long s))) at l.loop-i.invariant.2)
+    going_end _ s.args.at s.args.to-1.now l.loop-i.next l.loop-i.to (rw (terms-done (e l) l.loop-i.i (omega (arith, long s))) at l.loop-i.invariant.2)
 
 pub put_terms_spec : {M : Type 1} → statement M
 put_terms_spec =

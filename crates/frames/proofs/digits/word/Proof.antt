@@ -14,7 +14,7 @@ returns c =
     let r = c.as_signed in
     let l = c.before in
     let h = l.before.before.before.before in
-    back w32 r.result r.type-inv ∙ (rw (h.before.before.wide.ensures.0, h.wide-2.ensures.0, l.before.before.wide-3.ensures.0, l.wide-4.ensures.0, halves) at r.ensures)
+    back w32 r.result r.type_inv ∙ (rw (h.before.before.wide.ensures.0, h.wide-2.ensures.0, l.before.before.wide-3.ensures.0, l.wide-4.ensures.0, halves) at r.ensures)
 
 pub word_spec : {M : Type 1} → statement M
 word_spec =

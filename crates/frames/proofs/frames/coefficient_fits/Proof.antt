@@ -12,7 +12,7 @@ returns c =
     let m = c.before in
     let w = m.before in
     let z = w.before.args.z in
-    let e = back w64 w.wide.result w.wide.type-inv ∙ w.wide.ensures ∙ back w32 z w.before.ranges.z.sfits in
+    let e = back w64 w.wide.result w.wide.type_inv ∙ w.wide.ensures ∙ back w32 z w.before.ranges.z.sfits in
     rw (zero-read w32 z w.before.ranges.z.sfits, m.magnitude.ensures, e) at c.both.ensures
 
 pub coefficient_fits_spec : {M : Type 1} → statement M

@@ -44,7 +44,7 @@ loop-again c =
     let in_row = s.requires.1 (l.loop-i.i - 1) h in (
       omega arith,
       simp length-set l.loop-i.invariant.1,
-      rw (back w32 t.result t.type-inv, t.ensures, c.before.term_entry-e.ensures.0, term_more b n (l.loop-i.i - 1) h, e, ← l.loop-i.invariant.2)
+      rw (back w32 t.result t.type_inv, t.ensures, c.before.term_entry-e.ensures.0, term_more b n (l.loop-i.i - 1) h, e, ← l.loop-i.invariant.2)
           (sym (with-set (term_entry b (l.loop-i.i - 1)) (term_coefficient b (l.loop-i.i - 1)) l.loop-i.to (rw l.loop-i.invariant.1 in_row))),
     )
 

@@ -20,7 +20,7 @@ returns c =
     let s = c.before.before.before in
     let b = s.args.b.now in
     let e : s.args.i * 4 + 4 ≡ (1 + s.args.i) * 4 = omega arith in
-    back w32 w.result w.type-inv ∙ (rw e at w.ensures) ∙ sym (at-counted (λ j. signed (word b (j * 4))) 1 s.args.h.parameters s.args.i c.before.if-i-parameters.true)
+    back w32 w.result w.type_inv ∙ (rw e at w.ensures) ∙ sym (at-counted (λ j. signed (word b (j * 4))) 1 s.args.h.parameters s.args.i c.before.if-i-parameters.true)
 
 returns-2 : tie.Need-returns
 returns-2 c =

@@ -24,7 +24,7 @@ loop-holds : tie.Need-loop-i-init invariant-loop decreases-loop
 loop-holds c = (search rules, front-none _ _)
 
 loop-again : tie.Need-loop-i-preserved invariant-loop decreases-loop
-loop-again c = let n = c.numerator in (search rules, front-more _ _ _ _ _ c.before.before.loop-i.invariant.1 (back w32 n.result n.type-inv ∙ n.ensures))
+loop-again c = let n = c.numerator in (search rules, front-more _ _ _ _ _ c.before.before.loop-i.invariant.1 (back w32 n.result n.type_inv ∙ n.ensures))
 
 returns : tie.Need-returns invariant-loop decreases-loop
 returns c =

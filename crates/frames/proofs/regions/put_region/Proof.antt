@@ -35,7 +35,7 @@ module _ (l : tie.At-loop-i invariant-loop decreases-loop) where
   abbrev more : List ℕ
   more = row_lines (from_row s n (l.loop-i.i + 1))
 
-  now-line : l.loop-i.i < n → Going (row_lines (rows_at s 0 n)) l.before.before.args.at l.before.before.args.to-1.now (line ++ more) l.loop-i.next l.loop-i.to-1
+  now-line : l.loop-i.i < n → Going (row_lines (rows_at s 0 n)) l.before.before.args.at l.before.before.args.to-1.now (line ++ more) l.loop-i.next l.loop-i.to
   now-line h = rw (lines_turn s n l.loop-i.i h) at l.loop-i.inv.2
 
 put-row-requires : tie.Need-put_row-next-requires invariant-loop decreases-loop
@@ -62,7 +62,7 @@ returns : tie.Need-returns invariant-loop decreases-loop
 returns c =
     let l = c.before in
     let a = l.before.before.args in
-    going_end _ a.at a.to-1.now l.loop-i.next l.loop-i.to-1 (rw (lines-done a.region.now a.n l.loop-i.i c.loop-i-test.false) at l.loop-i.invariant.2)
+    going_end _ a.at a.to-1.now l.loop-i.next l.loop-i.to (rw (lines-done a.region.now a.n l.loop-i.i c.loop-i-test.false) at l.loop-i.invariant.2)
 
 pub put_region_spec : {M : Type 1} → statement M
 put_region_spec =

@@ -27,13 +27,13 @@ invariant-loop kind setting self n i₀ i = (i ≤ n) × (n ≤ 128) × (every (
 abbrev decreases-loop : tie.decreases-loop-i
 decreases-loop kind setting self n i₀ i = n - i
 
-long : (c : tie.Start invariant-loop decreases-loop) → length c.args.t1.rows ≡ 128
+long : (c : tie.Start invariant-loop decreases-loop) → length c.args.self.rows ≡ 128
 long c = search (rules, long_mapped)
 
 -- the table, and the test of each row
 module _ (l : tie.At-loop-i invariant-loop decreases-loop) where
   abbrev m : Model
-  m = l.before.before.args.t1
+  m = l.before.before.args.self
 
   abbrev test : ModelRow → Bool
   test = met l.before.before.args.kind l.before.before.args.setting
@@ -49,7 +49,7 @@ module _ (l : tie.At-loop-i invariant-loop decreases-loop) where
   row_is h = held_at m.count m.rows (long l.before.before) l.loop-i.i no_row (rw l.before.held-n.ensures at h)
 
 loop-holds : tie.Need-loop-i-init invariant-loop decreases-loop
-loop-holds c = (search rules, rw c.held-n.ensures (held-few c.before.args.t1.count c.before.args.t1.rows (long c.before)), refl)
+loop-holds c = (search rules, rw c.held-n.ensures (held-few c.before.args.self.count c.before.args.self.rows (long c.before)), refl)
 
 is-met-requires : tie.Need-is_met-requires invariant-loop decreases-loop
 is-met-requires c κs =

@@ -21,13 +21,13 @@ invariant-loop self h n i₀ i = (i ≤ n) × (n ≤ 128) × (rows_accepted self
 abbrev decreases-loop : tie.decreases-loop-i
 decreases-loop self h n i₀ i = n - i
 
-long : (c : tie.Start invariant-loop decreases-loop) → length c.args.t1.rows ≡ 128
+long : (c : tie.Start invariant-loop decreases-loop) → length c.args.self.rows ≡ 128
 long c = search (rules, long_mapped)
 
 -- the table, and its row that a turn looks at
 module _ (l : tie.At-loop-i invariant-loop decreases-loop) where
   abbrev m : Model
-  m = l.before.before.before.args.t1
+  m = l.before.before.before.args.self
 
   abbrev r : ModelRow
   r = get_or (given_rows m) l.loop-i.i no_row
@@ -46,7 +46,7 @@ read c h =
     rw (held_at (m l).count (m l).rows (long l.before.before.before) l.loop-i.i no_row (rw l.before.held-n.ensures at h)) c.outcome-o.ensures
 
 loop-holds : tie.Need-loop-i-init invariant-loop decreases-loop
-loop-holds c = (search rules, rw c.held-n.ensures (held-few c.before.before.args.t1.count c.before.before.args.t1.rows (long c.before.before)), refl)
+loop-holds c = (search rules, rw c.held-n.ensures (held-few c.before.before.args.self.count c.before.before.args.self.rows (long c.before.before)), refl)
 
 returns : tie.Need-returns-in-Refused invariant-loop decreases-loop
 returns c =

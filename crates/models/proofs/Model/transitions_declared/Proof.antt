@@ -27,18 +27,18 @@ abbrev none : Transition
 none = record { source = 0; action = 0; target = 0; resets = 0 }
 
 abbrev given : tie.At-loop-i invariant-loop decreases-loop → List Transition
-given l = given_transitions l.before.before.before.args.t1
+given l = given_transitions l.before.before.before.args.self
 
-long : (c : tie.Start invariant-loop decreases-loop) → length (given_transitions c.args.t1) ≡ c.args.t1.header.transitions
-long c = let e : length c.args.t1.transitions ≡ 64 = search (rules, long_mapped) in length-take-le _ c.args.t1.transitions (omega (arith, c.requires))
+long : (c : tie.Start invariant-loop decreases-loop) → length (given_transitions c.args.self) ≡ c.args.self.header.transitions
+long c = let e : length c.args.self.transitions ≡ 64 = search (rules, long_mapped) in length-take-le _ c.args.self.transitions (omega (arith, c.requires))
 
 read : (c : tie.After-transition_declared invariant-loop decreases-loop) →
     let l = c.before.before.before in
-    l.loop-i.i < l.before.before.before.args.t1.header.transitions →
-    c.transition_declared.result ≡ transition_declared l.before.before.before.args.t1.header (get_or (given l) l.loop-i.i none)
+    l.loop-i.i < l.before.before.before.args.self.header.transitions →
+    c.transition_declared.result ≡ transition_declared l.before.before.before.args.self.header (get_or (given l) l.loop-i.i none)
 read c h =
     let l = c.before.before.before in
-    rw (get_or-take l.before.before.before.args.t1.header.transitions l.before.before.before.args.t1.transitions l.loop-i.i none h) c.transition_declared.ensures
+    rw (get_or-take l.before.before.before.args.self.header.transitions l.before.before.before.args.self.transitions l.loop-i.i none h) c.transition_declared.ensures
 
 loop-holds : tie.Need-loop-i-init invariant-loop decreases-loop
 loop-holds c = (search rules, refl)
@@ -46,14 +46,14 @@ loop-holds c = (search rules, refl)
 returns : tie.Need-returns-then-not-transition_declared invariant-loop decreases-loop
 returns c =
     let l = c.before.before.before.before in
-    let h = l.before.before.before.args.t1.header in
+    let h = l.before.before.before.args.self.header in
     every_stops (transition_declared h) (given l) l.loop-i.i none (omega (arith, long l.before.before.before))
     (sym (read c.before (omega arith)) ∙ not-true c.before.transition_declared.result c.if-not-transition_declared.true-raw) ∙ l.loop-i.invariant.1
 
 loop-again : tie.Need-loop-i-preserved invariant-loop decreases-loop
 loop-again c =
     let l = c.before.before.before.before in
-    let h = l.before.before.before.args.t1.header in (
+    let h = l.before.before.before.args.self.header in (
       search rules,
       every_turn (transition_declared h) (given l) l.loop-i.i none (omega (arith, long l.before.before.before))
           (sym (read c.before (omega arith)) ∙ not-false c.before.transition_declared.result c.if-not-transition_declared.false-raw) ∙ l.loop-i.invariant.1,
@@ -62,7 +62,7 @@ loop-again c =
 returns-2 : tie.Need-returns invariant-loop decreases-loop
 returns-2 c =
     let l = c.before in
-    every-done (transition_declared l.before.before.before.args.t1.header) (given l) l.loop-i.i none (omega (arith, long l.before.before.before)) ∙ l.loop-i.invariant.1
+    every-done (transition_declared l.before.before.before.args.self.header) (given l) l.loop-i.i none (omega (arith, long l.before.before.before)) ∙ l.loop-i.invariant.1
 
 pub transitions_declared_spec : {M : Type 1} → statement M
 transitions_declared_spec =

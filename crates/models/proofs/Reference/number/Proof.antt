@@ -14,7 +14,7 @@ returns : tie.Need-returns-then-i-eq0
 returns c =
     let w = c.wide in
     let s = c.before.before.before.before.args in
-    rw c.before.before.if-i-eq0.true (back w64 w.result w.type-inv ∙ w.ensures ∙ back w32 s.self.denominator (search rules))
+    rw c.before.before.if-i-eq0.true (back w64 w.result w.type_inv ∙ w.ensures ∙ back w32 s.self.denominator (search rules))
 
 returns-2 : tie.Need-returns-then-i-parameters
 returns-2 c =
@@ -23,7 +23,7 @@ returns-2 c =
     let r = s.self in
     let h : 0 < s.i = omega arith in
     let n = at r.numerators (s.i - 1) in
-    back w64 w.result w.type-inv ∙ w.ensures ∙ back w32 n c.before.wide-arg-1.given ∙ sym (numerator-at r.denominator r.numerators s.parameters s.i h c.before.before.if-i-parameters.true)
+    back w64 w.result w.type_inv ∙ w.ensures ∙ back w32 n c.before.wide-arg-1.given ∙ sym (numerator-at r.denominator r.numerators s.parameters s.i h c.before.before.if-i-parameters.true)
 
 returns-3 : tie.Need-returns
 returns-3 c = let s = c.before.before.before.args in sym (reference-past s.self.denominator s.self.numerators s.parameters s.i c.if-i-parameters.false)

@@ -33,7 +33,7 @@ returns c =
     let r = f.before.before.args.self in
     let q : k.constant.result ≡ divided_down r =
     rw k.before.widened.ensures at k.constant.ensures
-    ∙ down_constant r.entries r.strict (named f true (bits-zero w32 f.first_variable-x.result f.first_variable-x.type-inv k.before.before.if-x-eq0.true)) in
+    ∙ down_constant r.entries r.strict (named f true (bits-zero w32 f.first_variable-x.result f.first_variable-x.type_inv k.before.before.if-x-eq0.true)) in
     rw q at c.before.give.ensures
 
 -- of any number but the least the sign can be turned
@@ -44,7 +44,7 @@ above-least (negsuc n) h e = omega (arith, leb-true n 2147483646 e)
 is-level-requires : tie.Need-is_level-requires
 is-level-requires c κs =
     let x = c.before.before.first_variable-x in
-    rw (back w32 x.result x.type-inv) (above-least x.result x.type-inv (rw (back w32 x.result x.type-inv) at c.if-x-geminus2147483647.true))
+    rw (back w32 x.result x.type_inv) (above-least x.result x.type_inv (rw (back w32 x.result x.type_inv) at c.if-x-geminus2147483647.true))
 
 returns-2 : tie.Need-returns-then-is_level
 returns-2 c =
@@ -55,7 +55,7 @@ returns-2 c =
     let r = f.before.before.args.self in
     let x = f.first_variable-x in
     let some = zero_bits w32 x.result t.before.before.if-x-eq0.false in
-    let q = level_down r (named f false some) x.result some (sym (rw (back w32 x.result x.type-inv) at t.is_level.ensures) ∙ g.before.if-is_level.true) in
+    let q = level_down r (named f false some) x.result some (sym (rw (back w32 x.result x.type_inv) at t.is_level.ensures) ∙ g.before.if-is_level.true) in
     rw (← q) (refl, rw g.signs.ensures at w.write.ensures)
 
 lowered-requires : tie.Need-lowered-requires

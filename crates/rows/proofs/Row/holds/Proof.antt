@@ -6,7 +6,7 @@ use Rattle.rows.proofs.Row.holds.Statement.{statement}
 use Rattle.rows.proofs.Row.holds.Tie as tie
 
 returns : tie.Need-returns
-returns c = let v = c.before.value in rw (back w64 v.result v.type-inv, v.ensures) at c.is_under.ensures
+returns c = let v = c.before.value in rw (back w64 v.result v.type_inv, v.ensures) at c.is_under.ensures
 
 pub holds_spec : {M : Type 1} → statement M
 holds_spec = tie.close (tie.spec (λ c κs. search rules) (λ c κs. search rules) returns)

@@ -30,7 +30,7 @@ loop-again : tie.Need-loop-i-preserved invariant-loop decreases-loop
 loop-again c = (
   search rules,
   front-more _ _ _ _ _ c.before.before.before.loop-i.invariant.1
-      (rw (to_z-of_z (record { sfits = c.turned.type-inv })) (c.turned.ensures ∙ ap neg_ℤ (to_z-of_z (fit c.before)))),
+      (rw (to_z-of_z (record { sfits = c.turned.type_inv })) (c.turned.ensures ∙ ap neg_ℤ (to_z-of_z (fit c.before)))),
 )
 
 returns : tie.Need-returns invariant-loop decreases-loop

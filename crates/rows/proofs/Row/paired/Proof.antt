@@ -19,13 +19,13 @@ turned-requires c κs =
 
 -- the two factors
 first : (c : tie.After-wide-a) → let z = c.before.before.before.before.args in to_z w64 (of_z w64 c.wide-a.result) ≡ at z.self.entries z.v
-first c = back w64 c.wide-a.result c.wide-a.type-inv ∙ c.wide-a.ensures ∙ back w32 _ c.before.wide-arg-1.given
+first c = back w64 c.wide-a.result c.wide-a.type_inv ∙ c.wide-a.ensures ∙ back w32 _ c.before.wide-arg-1.given
 
 second : (c : tie.After-wide-b) → let z = c.before.before.before.before.before.before.before.args in to_z w64 (of_z w64 c.wide-b.result) ≡ neg_ℤ (at z.other.entries z.v)
 second c =
     let s = c.before.before.before.before.before.before.before.args in
     let t = c.before.turned in
-    back w64 c.wide-b.result c.wide-b.type-inv ∙ c.wide-b.ensures ∙ back w32 t.result t.type-inv ∙ t.ensures ∙
+    back w64 c.wide-b.result c.wide-b.type_inv ∙ c.wide-b.ensures ∙ back w32 t.result t.type_inv ∙ t.ensures ∙
     ap neg_ℤ (back w32 (at s.other.entries s.v) c.before.before.turned-arg-1.given)
 
 combined-requires : tie.Need-combined-requires

@@ -36,12 +36,12 @@ abbrev entry : tie.At-loop-i invariant-loop decreases-loop → ℤ
 entry l = get_or l.before.before.args.self.entries l.loop-i.i (pos 0)
 
 abbrev number : tie.At-loop-i invariant-loop decreases-loop → ℤ
-number l = get_or l.before.before.args.t2 l.loop-i.i (pos 0)
+number l = get_or l.before.before.args.setting l.loop-i.i (pos 0)
 
 x-is : (c : tie.After-plus_product-arg-1 invariant-loop decreases-loop) → to_z w64 (of_z w64 c.before.wide.result) ≡ entry c.before.before.before.before
 x-is c =
     let w = c.before.wide in
-    back w64 w.result w.type-inv ∙ w.ensures ∙ back w32 (entry c.before.before.before.before) c.before.before.wide-arg-1.given
+    back w64 w.result w.type_inv ∙ w.ensures ∙ back w32 (entry c.before.before.before.before) c.before.before.wide-arg-1.given
 
 y-is : (c : tie.After-plus_product-arg-1 invariant-loop decreases-loop) → to_z w64 (of_z w64 (number c.before.before.before.before)) ≡ number c.before.before.before.before
 y-is c = back w64 (number c.before.before.before.before) c.plus_product-arg-1.given
@@ -61,22 +61,22 @@ loop-again c =
     let s = l.before.before in
     let p = c.plus_product-sum in
     let a : length s.args.self.entries ≡ 16 = search rules in
-    let b : length s.args.t2 ≡ 9 = search rules in
+    let b : length s.args.setting ≡ 9 = search rules in
     let h : l.loop-i.i < length s.args.self.entries = omega arith in
-    let k : l.loop-i.i < length s.args.t2 = omega arith in
+    let k : l.loop-i.i < length s.args.setting = omega arith in
     let t = to_z w64 (of_z w64 p.result) in
-    let is : t ≡ to_z w64 l.loop-i.sum-bits +ℤ entry l *ℤ number l = back w64 p.result p.type-inv ∙ (rw (x-is d, y-is d) at p.ensures) in (
+    let is : t ≡ to_z w64 l.loop-i.sum-bits +ℤ entry l *ℤ number l = back w64 p.result p.type_inv ∙ (rw (x-is d, y-is d) at p.ensures) in (
       search rules,
-      grows s.args.self.entries s.args.t2 l.loop-i.i h k (to_z w64 l.loop-i.sum-bits) t is (small l) l.loop-i.invariant.1,
-      turn s.args.self.entries s.args.t2 l.loop-i.i h k (to_z w64 l.loop-i.sum-bits) t is ∙ l.loop-i.invariant.2,
+      grows s.args.self.entries s.args.setting l.loop-i.i h k (to_z w64 l.loop-i.sum-bits) t is (small l) l.loop-i.invariant.1,
+      turn s.args.self.entries s.args.setting l.loop-i.i h k (to_z w64 l.loop-i.sum-bits) t is ∙ l.loop-i.invariant.2,
     )
 
 returns : tie.Need-returns invariant-loop decreases-loop
 returns c =
     let l = c.before in
     let s = l.before.before in
-    let a : length s.args.t2 ≡ 9 = search rules in
-    sym (+ℤ_idr (to_z w64 l.loop-i.sum-bits)) ∙ (rw (drop-done s.args.t2 l.loop-i.i (omega arith), dot-nil) at l.loop-i.invariant.2)
+    let a : length s.args.setting ≡ 9 = search rules in
+    sym (+ℤ_idr (to_z w64 l.loop-i.sum-bits)) ∙ (rw (drop-done s.args.setting l.loop-i.i (omega arith), dot-nil) at l.loop-i.invariant.2)
 
 pub value_spec : {M : Type 1} → statement M
 value_spec =
