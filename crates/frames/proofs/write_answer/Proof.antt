@@ -19,7 +19,7 @@ module _ (c : tie.After-region_length-all) where
   start = c.before.before
 
   abbrev to : List ℕ
-  to = start.args.to-1.now
+  to = start.args.to.now
 
   abbrev lines : List ℕ
   lines = row_lines (rows_at start.args.region.now 0 start.args.rows)

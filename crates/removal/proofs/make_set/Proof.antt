@@ -25,7 +25,7 @@ decreases-loop s₀ n c₀ i₀ s c i = n - i
 
 loop-holds : tie.Need-loop-i-init invariant-loop decreases-loop
 loop-holds c =
-    let s = c.before.args.s-1.now in
+    let s = c.before.args.s.now in
     let r = ready_start (holds-none s c.before.requires.1) in
     rw c.with-c.ensures (search rules, refl, r, ready_left s _ r, growing_none s, making_start s c.before.args.n)
 
@@ -51,16 +51,16 @@ loop-again c =
       omega arith,
       search rules,
       put_ready x.fate x.row small wide _ _ _ _ v.2 d,
-      put-left x.fate x.row small wide _ _ _ _ v.2 d b.args.s-1.now b.requires.1 v.3,
+      put-left x.fate x.row small wide _ _ _ _ v.2 d b.args.s.now b.requires.1 v.3,
       rw e (next_growing x.fate x.row (progress s l.loop-i.c) i (omega (arith, b.requires.0, t.loop-i-test.true)) v.4),
-      making_turn b.args.s-1.now s l.loop-i.c b.args.n i t.loop-i-test.true _ _ (ready_proper s l.loop-i.c v.2) v.4 v.3 e ∙ v.5,
+      making_turn b.args.s.now s l.loop-i.c b.args.n i t.loop-i-test.true _ _ (ready_proper s l.loop-i.c v.2) v.4 v.3 e ∙ v.5,
     )
 
 returns : tie.Need-returns invariant-loop decreases-loop
 returns c =
     let l = c.before in
     let z = l.before.before.args in
-    rw (← l.loop-i.invariant.5, put_all-done z.s-1.now 0 z.n l.loop-i.i (omega arith) (progress l.loop-i.s l.loop-i.c)) l.loop-i.invariant.3
+    rw (← l.loop-i.invariant.5, put_all-done z.s.now 0 z.n l.loop-i.i (omega arith) (progress l.loop-i.s l.loop-i.c)) l.loop-i.invariant.3
 
 pub make_set_spec : {M : Type 1} → statement M
 make_set_spec =

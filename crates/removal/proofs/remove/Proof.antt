@@ -9,7 +9,7 @@ returns c =
     let n = c.before in
     let d = n.before.before.before in
     let z = d.before.before.before.before.args in
-    removed-part z.count z.variables.now z.first-1 z.second-1 _ _ _ d.remove_between-done.result _ d.remove_between-done.ensures
+    removed-part z.count z.variables.now z.first z.second _ _ _ d.remove_between-done.result _ d.remove_between-done.ensures
     n.number.ensures c.part.ensures.numbers c.part.ensures.place
 
 pub remove_spec : {M : Type 1} → statement M

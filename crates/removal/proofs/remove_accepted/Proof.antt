@@ -9,7 +9,7 @@ make-set-requires : tie.Need-make_set-c-requires
 make-set-requires c κs =
     let b = c.before.before in
     let z = b.args in
-    let k = accepted z.count z.variables.now z.first-1.now z.second-1.now b.requires in
+    let k = accepted z.count z.variables.now z.first.now z.second.now b.requires in
     (k.few, k.first_long)
 
 remove-all-requires : tie.Need-remove_all-requires
@@ -17,8 +17,8 @@ remove-all-requires c κs =
     let m = c.before.before.before.before in
     let b = m.before.before.before in
     let z = b.args in
-    let k = accepted z.count z.variables.now z.first-1.now z.second-1.now b.requires in
-    (rw c.of.ensures (made_between z.count z.variables.now z.first-1.now z.second-1.now b.requires _ _ m.make_set-c.ensures), k.variables)
+    let k = accepted z.count z.variables.now z.first.now z.second.now b.requires in
+    (rw c.of.ensures (made_between z.count z.variables.now z.first.now z.second.now b.requires _ _ m.make_set-c.ensures), k.variables)
 
 returns : tie.Need-returns
 returns c =
@@ -27,7 +27,7 @@ returns c =
     let m = o.before.before.before.before in
     let b = m.before.before.before in
     let z = b.args in
-    accepted-moved z.count z.variables.now z.first-1.now z.second-1.now b.requires _ _ m.make_set-c.ensures _ _ _ (rw o.of.ensures at r.remove_all.ensures)
+    accepted-moved z.count z.variables.now z.first.now z.second.now b.requires _ _ m.make_set-c.ensures _ _ _ (rw o.of.ensures at r.remove_all.ensures)
 
 pub remove_accepted_spec : {M : Type 1} → statement M
 remove_accepted_spec =

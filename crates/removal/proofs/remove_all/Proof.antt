@@ -15,7 +15,7 @@ abbrev decreases-loop : tie.decreases-loop-i
 decreases-loop first₀ second₀ variables done₀ i₀ first second done i = length variables - i
 
 loop-holds : tie.Need-loop-i-init invariant-loop decreases-loop
-loop-holds c = let z = c.before.args in (search rules, turned_none z.variables.now z.first-1.now z.second-1.now z.s c.before.requires.0)
+loop-holds c = let z = c.before.args in (search rules, turned_none z.variables.now z.first.now z.second.now z.s c.before.requires.0)
 
 remove-next-requires : tie.Need-remove_next-done-requires invariant-loop decreases-loop
 remove-next-requires c κs =
@@ -24,7 +24,7 @@ remove-next-requires c κs =
     let b = l.before.before in
     let z = b.args in
     let v = variable_at z.variables.now l.loop-i.i b.requires.1 t.loop-i-test.true in
-    (turned-between z.variables.now z.first-1.now z.second-1.now z.s b.requires.0 l.loop-i.i l.loop-i.first l.loop-i.second l.loop-i.done l.loop-i.invariant.1, v.0, v.1)
+    (turned-between z.variables.now z.first.now z.second.now z.s b.requires.0 l.loop-i.i l.loop-i.first l.loop-i.second l.loop-i.done l.loop-i.invariant.1, v.0, v.1)
 
 loop-again : tie.Need-loop-i-preserved invariant-loop decreases-loop
 loop-again c =
@@ -34,7 +34,7 @@ loop-again c =
     let b = l.before.before in
     let z = b.args in (
       omega arith,
-      turned_more z.variables.now z.first-1.now z.second-1.now z.s b.requires.0 l.loop-i.i l.loop-i.first l.loop-i.second l.loop-i.done l.loop-i.invariant.1
+      turned_more z.variables.now z.first.now z.second.now z.s b.requires.0 l.loop-i.i l.loop-i.first l.loop-i.second l.loop-i.done l.loop-i.invariant.1
           t.loop-i-test.true _ _ _ n.remove_next-done.ensures,
     )
 

@@ -8,7 +8,7 @@ use Rattle.removal.proofs.remove_between.Statement.{statement}
 use Rattle.removal.proofs.remove_between.Tie as tie
 
 -- none of the refusals at once applies
-none : (c : tie.In-Found) → (let z = c.before.before.before.before.before.before.args in refused_at_once z.count z.variables.now z.first-1.now z.second-1.now ≡ Found)
+none : (c : tie.In-Found) → (let z = c.before.before.before.before.before.before.args in refused_at_once z.count z.variables.now z.first.now z.second.now ≡ Found)
 none c = sym c.before.before.refused_at_once-o.ensures ∙ c.enum_told-1.given.1
 
 tidy-requires : tie.Need-tidy-requires
@@ -16,7 +16,7 @@ tidy-requires c κs =
     let r = c.before.before.before.before in
     let t = r.before.before.before in
     let z = t.before.before.before.before.before.before.args in
-    tidy-room z.count z.variables.now z.first-1.now z.second-1.now (none t) _ _ _ r.remove_accepted-s.ensures
+    tidy-room z.count z.variables.now z.first.now z.second.now (none t) _ _ _ r.remove_accepted-s.ensures
 
 returns : tie.Need-returns-in-Refused
 returns c =
@@ -24,7 +24,7 @@ returns c =
     let r = o.before.before in
     let z = r.before.before.before.before.args in
     rw c.refused.ensures
-    (alone-refused z.count z.variables.now z.first-1.now z.second-1.now _ _ r.refused_at_once-o.ensures o.o-1.given.1)
+    (alone-refused z.count z.variables.now z.first.now z.second.now _ _ r.refused_at_once-o.ensures o.o-1.given.1)
 
 returns-2 : tie.Need-returns-in-Found
 returns-2 c =
@@ -32,7 +32,7 @@ returns-2 c =
     let r = d.before.before.before.before.before in
     let t = r.before.before.before in
     let z = t.before.before.before.before.before.before.args in
-    alone-found z.count z.variables.now z.first-1.now z.second-1.now (none t) _ _ _ r.remove_accepted-s.ensures _ _ d.tidy.ensures
+    alone-found z.count z.variables.now z.first.now z.second.now (none t) _ _ _ r.remove_accepted-s.ensures _ _ d.tidy.ensures
 
 pub remove_between_spec : {M : Type 1} → statement M
 remove_between_spec =

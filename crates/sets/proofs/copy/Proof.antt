@@ -27,7 +27,7 @@ loop-again c =
       omega arith,
       simp length-set l.loop-i.invariant.1,
       rw (add-one, l.loop-i.invariant.2, back w32 (get_or z.from.now (z.a + i) (pos 0)) c.to-1.given, ← get_or-drop z.a z.from.now i (pos 0))
-          (paste-suc z.to-1.now z.b s i (pos 0) (omega arith) (rw length-drop (omega arith))),
+          (paste-suc z.to.now z.b s i (pos 0) (omega arith) (rw length-drop (omega arith))),
     )
 
 returns : tie.Need-returns invariant-loop decreases-loop
@@ -37,7 +37,7 @@ pub copy_spec : {M : Type 1} → statement M
 copy_spec =
     tie.close
     (tie.spec invariant-loop decreases-loop
-    (λ c. (search rules, refl, paste-zero c.args.to-1.now c.args.b (drop c.args.a c.args.from.now)))
+    (λ c. (search rules, refl, paste-zero c.args.to.now c.args.b (drop c.args.a c.args.from.now)))
     (λ c. omega arith)
     (λ c. omega arith)
     (λ c. omega arith)

@@ -25,11 +25,11 @@ start c = c.before.before.before.before
 abbrev place : tie.In-At-2 → ℕ
 place c = c.place-1.given.0.0
 
-placed : (c : tie.In-At-2) → At (place c) ≡ place_of (row (start c)) (set_in (start c).args.s-1.now (start c).args.n)
+placed : (c : tie.In-At-2) → At (place c) ≡ place_of (row (start c)) (set_in (start c).args.s.now (start c).args.n)
 placed c = sym c.place-1.given.1 ∙ c.before.before.find-place.ensures
 
 within : (c : tie.In-At-2) → place c ≤ (start c).args.n
-within c = rw length-rows_at at (place-within (row (start c)) (set_in (start c).args.s-1.now (start c).args.n) (place c) (placed c))
+within c = rw length-rows_at at (place-within (row (start c)) (set_in (start c).args.s.now (start c).args.n) (place c) (placed c))
 
 few : (c : tie.Else-n-eq-ROWS) → (start c.before.before).args.n < set_rows
 few c = lt_of_le_of_ne (start c.before.before).requires.0.few c.if-n-eq-ROWS.false
@@ -49,13 +49,13 @@ returns : tie.Need-returns-then-n-eq-ROWS
 returns c =
     let p = c.before.before in
     let b = start p in
-    left_full b.args.s-1.now b.args.n (row b) b.pre.0 (place p) (placed p) c.if-n-eq-ROWS.true
+    left_full b.args.s.now b.args.n (row b) b.pre.0 (place p) (placed p) c.if-n-eq-ROWS.true
 
 returns-2 : tie.Need-returns-in-Standing
 returns-2 c =
     let f = c.before.before in
     let b = f.before.before in
-    left-standing b.args.s-1.now b.args.n (row b) b.requires.0 (sym c.enum_told-1.given.1 ∙ f.find-place.ensures)
+    left-standing b.args.s.now b.args.n (row b) b.requires.0 (sym c.enum_told-1.given.1 ∙ f.find-place.ensures)
 
 returns-3 : tie.Need-returns-else-n-eq-ROWS
 returns-3 c =
@@ -65,7 +65,7 @@ returns-3 c =
     let e = u.before.before in
     let p = e.before.before in
     let b = start p in
-    left_inserted b.args.s-1.now b.args.n (row b) b.pre.0 (place p) (placed p) (wide-row_at b.args.x.now b.args.at b.pre.1) (few e) _ _
+    left_inserted b.args.s.now b.args.n (row b) b.pre.0 (place p) (placed p) (wide-row_at b.args.x.now b.args.at b.pre.1) (few e) _ _
     u.shift_up.ensures (rw r.read.ensures at w.write.ensures)
 
 pub insert_spec : {M : Type 1} → statement M

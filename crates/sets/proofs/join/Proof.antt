@@ -24,7 +24,7 @@ decreases-loop from at m to₀ n c₀ i₀ to c i = m - i
 loop-holds : tie.Need-loop-i-init invariant-loop decreases-loop
 loop-holds c =
     let z = c.before.args in
-    let s = z.to-1.now in
+    let s = z.to.now in
     let h = c.before.requires.1 in
     let r = ready_start h in
     rw c.with-c.ensures (
@@ -51,7 +51,7 @@ loop-again c =
       omega arith,
       search rules,
       put_ready x.fate x.row small wide _ _ _ _ ready d,
-      put-left x.fate x.row small wide _ _ _ _ ready d z.to-1.now b.requires.1.long l.loop-i.invariant.3,
+      put-left x.fate x.row small wide _ _ _ _ ready d z.to.now b.requires.1.long l.loop-i.invariant.3,
       put_all-row z.from.now z.at z.m l.loop-i.i t.loop-i-test.true _ _ (put-progress x.fate x.row small wide _ _ _ _ ready d) ∙ l.loop-i.invariant.4,
     )
 

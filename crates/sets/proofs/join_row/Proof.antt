@@ -37,7 +37,7 @@ returns-2 c =
     let b = h.before.before.before in
     let s : all_small (row b).entries ≡ false = rw h.before.before.read-r.ensures at (sym w.within_limit.ensures ∙ t.if-within_limit.false) in
     let e = has_one-limited (row b) (one h) ∙ limited_large (row b) s in
-    rw c.refused.ensures (put_large b.args.to-1.now b.args.c (divided_down (row b)).row (divided_down (row b)).fate (ap (λ (x : Settled). x.fate) e))
+    rw c.refused.ensures (put_large b.args.to.now b.args.c (divided_down (row b)).row (divided_down (row b)).fate (ap (λ (x : Settled). x.fate) e))
 
 -- what was written is read back
 alone : (c : tie.After-divided_into-fate) → row_at c.divided_into-fate.new.1.0 0 ≡ (divided_down (row c.before.before.before.before.before)).row

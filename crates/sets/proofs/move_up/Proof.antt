@@ -21,7 +21,7 @@ loop-again : tie.Need-loop-i-preserved invariant-loop decreases-loop
 loop-again c =
     let l = c.before.before in
     let z = l.before.args in
-    let s = z.s-1.now in
+    let s = z.s.now in
     let h = c.before.loop-i-test.true in
     let room = l.before.requires in
     let is = l.loop-i.invariant.2 in (
@@ -37,7 +37,7 @@ pub move_up_spec : {M : Type 1} → statement M
 move_up_spec =
     tie.close
     (tie.spec invariant-loop decreases-loop
-    (λ c. (search rules, refl, paste-zero c.args.s-1.now (c.args.at + 17) (drop c.args.at c.args.s-1.now)))
+    (λ c. (search rules, refl, paste-zero c.args.s.now (c.args.at + 17) (drop c.args.at c.args.s.now)))
     (λ c. omega arith)
     (λ c. omega arith)
     (λ c. omega arith)

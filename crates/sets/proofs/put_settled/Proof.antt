@@ -9,12 +9,12 @@ returns : tie.Need-returns-in-Gone
 returns c =
     let b = c.before.before in
     let z = b.args in
-    put-gone z.s-1.now z.c (row_at z.x.now 0) z.fate b.requires.0 c.enum_told-1.given.1
+    put-gone z.s.now z.c (row_at z.x.now 0) z.fate b.requires.0 c.enum_told-1.given.1
 
 returns-2 : tie.Need-returns-in-TooLarge
 returns-2 c =
     let z = c.before.before.before.args in
-    rw c.refused.ensures (put_large z.s-1.now z.c (row_at z.x.now 0) z.fate c.before.enum_told-in-TooLarge-1.given.1)
+    rw c.refused.ensures (put_large z.s.now z.c (row_at z.x.now 0) z.fate c.before.enum_told-in-TooLarge-1.given.1)
 
 returns-3 : tie.Need-returns-in-Kept
 returns-3 c = rw c.before.before.before.enum_told-in-Kept-1.given.1 c.before.put_row.ensures

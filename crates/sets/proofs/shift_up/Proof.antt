@@ -19,14 +19,14 @@ decreases-loop s₀ k n i₀ s i = i
 loop-holds : tie.Need-loop-i-init invariant-loop decreases-loop
 loop-holds c =
     let z = c.args in
-    (search rules, search rules, refl, rw sub_self (paste-zero z.s-1.now (z.n * 17 + 17) (drop (z.n * 17) z.s-1.now)))
+    (search rules, search rules, refl, rw sub_self (paste-zero z.s.now (z.n * 17 + 17) (drop (z.n * 17) z.s.now)))
 
 loop-again : tie.Need-loop-i-preserved invariant-loop decreases-loop
 loop-again c =
     let m = c.before in
     let l = m.before.before.before in
     let z = l.before.args in
-    let s = z.s-1.now in
+    let s = z.s.now in
     let a = (l.loop-i.i - 1) * 17 in
     let e : l.loop-i.i * 17 ≡ a + 17 = omega arith in
     let is : l.loop-i.s ≡ paste s (a + 17 + 17) (drop (a + 17) s) (z.n * 17 - (a + 17)) = rw e at l.loop-i.invariant.3 in (

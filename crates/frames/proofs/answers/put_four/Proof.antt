@@ -16,7 +16,7 @@ returns c =
     let b = c.before.before in
     let a = b.before.before.before.before in
     let s = a.before.before.before in
-    rw (four_bytes s.args.n) (wrote_then _ _ s.args.at _ _ s.args.to-1.now _ _ (omega arith) a.put_two-next.ensures b.put_two.ensures)
+    rw (four_bytes s.args.n) (wrote_then _ _ s.args.at _ _ s.args.to.now _ _ (omega arith) a.put_two-next.ensures b.put_two.ensures)
 
 pub put_four_spec : {M : Type 1} → statement M
 put_four_spec = tie.close (tie.spec

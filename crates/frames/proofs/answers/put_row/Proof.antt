@@ -19,7 +19,7 @@ module _ (s : tie.Start) where
   abbrev terms : List ℕ
   terms = digits_of (terms_of 0 s.args.r.entries)
 
-  room : (length head ≡ 10) × (s.args.at + (length head + length terms + 1) ≤ length s.args.to-1.now)
+  room : (length head ≡ 10) × (s.args.at + (length head + length terms + 1) ≤ length s.args.to.now)
   room =
       let e = row_digits s.args.r in
       (digits_length (row_head s.args.r.strict (term_number s.args.r.entries)), omega (arith, s.pre, ap length e, length-append (head ++ terms) (10 ∷ []), length-append head terms))
@@ -52,7 +52,7 @@ returns c =
     let h = t.before.before.before.before in
     let s = h.before.before.before.before.before in
     let a = s.args.at in
-    let to = s.args.to-1.now in
+    let to = s.args.to.now in
     let r = room s in
     let w = rw h.before.term_number.ensures.0 at h.put_head-terms.ensures in
     let two = wrote_then (head s) (terms s) a _ _ to _ _ (omega (arith, r.1)) w t.put_terms-end.ensures in

@@ -13,13 +13,13 @@ use Rattle.frames.proofs.answers.put_term.Statement.{statement}
 use Rattle.frames.proofs.answers.put_term.Tie as tie
 
 -- a term takes ten digits
-room : (c : tie.Else-z-eq0) → c.before.before.args.at + 10 ≤ length c.before.before.args.to-1.now
+room : (c : tie.Else-z-eq0) → c.before.before.args.at + 10 ≤ length c.before.before.args.to.now
 unfolding digits_of big_endian
 room c = let s = c.before.before in rw (zero_bits w32 s.args.z c.if-z-eq0.false) at s.requires.1
 
 returns : tie.Need-returns-then-z-eq0
 unfolding digits_of
-returns c = let s = c.before.before in rw (bits-zero w32 s.args.z s.ranges.z.sfits c.if-z-eq0.true) (wrote_none s.args.at s.args.to-1.now)
+returns c = let s = c.before.before in rw (bits-zero w32 s.args.z s.ranges.z.sfits c.if-z-eq0.true) (wrote_none s.args.at s.args.to.now)
 
 put-byte-requires : tie.Need-put_byte-next-requires
 put-byte-requires c κs = let r = room c.before in omega arith
@@ -39,7 +39,7 @@ returns-2 c =
     let e = b.before.before in
     let s = e.before.before in
     rw (zero_bits w32 s.args.z e.if-z-eq0.false)
-    (wrote_then (digits_of (s.args.i ∷ [])) (digits_of (big_endian 4 (pattern s.args.z))) s.args.at _ _ s.args.to-1.now _ _ (omega (arith, room e)) b.put_byte-next.ensures
+    (wrote_then (digits_of (s.args.i ∷ [])) (digits_of (big_endian 4 (pattern s.args.z))) s.args.at _ _ s.args.to.now _ _ (omega (arith, room e)) b.put_byte-next.ensures
     (rw (rw (to_z-of_z s.ranges.z) at f.before.pattern.ensures.0) at f.put_four.ensures))
 
 pub put_term_spec : {M : Type 1} → statement M

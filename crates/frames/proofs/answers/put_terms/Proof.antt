@@ -31,7 +31,7 @@ module _ (l : tie.At-loop-i invariant-loop decreases-loop) where
   abbrev z : ℤ
   z = get_or e l.loop-i.i (pos 0)
 
-  now-digits : l.loop-i.i < 16 → Going (digits_of (terms_of 0 e)) l.before.before.args.at l.before.before.args.to-1.now
+  now-digits : l.loop-i.i < 16 → Going (digits_of (terms_of 0 e)) l.before.before.args.at l.before.before.args.to.now
       (digits_of (term_bytes l.loop-i.i z) ++ digits_of (terms_of (l.loop-i.i + 1) (drop (l.loop-i.i + 1) e))) l.loop-i.next l.loop-i.to
   now-digits h = rw (terms_digits e l.loop-i.i (omega (arith, long l.before.before))) at l.loop-i.inv.2
 
@@ -53,7 +53,7 @@ loop-again c =
     let s = l.before.before in
     let h : l.loop-i.i < 16 = omega arith in
     let w = rw (back w32 (z l) t.before.put_term-arg-in-loop-i-1.given) at t.put_term-next.ensures in
-    let g = going_on _ s.args.at s.args.to-1.now (digits_of (term_bytes l.loop-i.i (z l))) (digits_of (terms_of (l.loop-i.i + 1) (drop (l.loop-i.i + 1) (e l)))) _ _ _ _ s.requires (now-digits l h) w in
+    let g = going_on _ s.args.at s.args.to.now (digits_of (term_bytes l.loop-i.i (z l))) (digits_of (terms_of (l.loop-i.i + 1) (drop (l.loop-i.i + 1) (e l)))) _ _ _ _ s.requires (now-digits l h) w in
     (omega arith, g.long, g)
 
 returns : tie.Need-returns invariant-loop decreases-loop
@@ -61,7 +61,7 @@ unfolding digits_of
 returns c =
     let l = c.before in
     let s = l.before.before in
-    going_end _ s.args.at s.args.to-1.now l.loop-i.next l.loop-i.to (rw (terms-done (e l) l.loop-i.i (omega (arith, long s))) at l.loop-i.invariant.2)
+    going_end _ s.args.at s.args.to.now l.loop-i.next l.loop-i.to (rw (terms-done (e l) l.loop-i.i (omega (arith, long s))) at l.loop-i.invariant.2)
 
 pub put_terms_spec : {M : Type 1} → statement M
 put_terms_spec =

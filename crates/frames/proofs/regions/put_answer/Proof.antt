@@ -17,7 +17,7 @@ module _ (c : tie.After-put_byte-kind) where
   start = c.before.before.before
 
   abbrev to : List ℕ
-  to = start.args.to-1.now
+  to = start.args.to.now
 
   abbrev kind : List ℕ
   kind = digits_of (5 ∷ [])

@@ -35,7 +35,7 @@ module _ (l : tie.At-loop-i invariant-loop decreases-loop) where
   abbrev more : List ℕ
   more = row_lines (from_row s n (l.loop-i.i + 1))
 
-  now-line : l.loop-i.i < n → Going (row_lines (rows_at s 0 n)) l.before.before.args.at l.before.before.args.to-1.now (line ++ more) l.loop-i.next l.loop-i.to
+  now-line : l.loop-i.i < n → Going (row_lines (rows_at s 0 n)) l.before.before.args.at l.before.before.args.to.now (line ++ more) l.loop-i.next l.loop-i.to
   now-line h = rw (lines_turn s n l.loop-i.i h) at l.loop-i.inv.2
 
 put-row-requires : tie.Need-put_row-next-requires invariant-loop decreases-loop
@@ -47,7 +47,7 @@ put-row-requires c κs =
 loop-holds : tie.Need-loop-i-init invariant-loop decreases-loop
 loop-holds c =
     let a = c.before.args in
-    (search rules, refl, rw (lines-all a.region.now a.n) (going_first _ a.at a.to-1.now))
+    (search rules, refl, rw (lines-all a.region.now a.n) (going_first _ a.at a.to.now))
 
 loop-again : tie.Need-loop-i-preserved invariant-loop decreases-loop
 loop-again c =
@@ -55,14 +55,14 @@ loop-again c =
     let l = p.before.before.before.before in
     let st = l.before.before in
     let w = rw p.before.read.ensures at p.put_row-next.ensures in
-    let g = going_on _ st.args.at st.args.to-1.now (line l) (more l) _ _ _ _ st.requires.2 (now-line l (omega arith)) w in
+    let g = going_on _ st.args.at st.args.to.now (line l) (more l) _ _ _ _ st.requires.2 (now-line l (omega arith)) w in
     (search rules, g.long, g)
 
 returns : tie.Need-returns invariant-loop decreases-loop
 returns c =
     let l = c.before in
     let a = l.before.before.args in
-    going_end _ a.at a.to-1.now l.loop-i.next l.loop-i.to (rw (lines-done a.region.now a.n l.loop-i.i c.loop-i-test.false) at l.loop-i.invariant.2)
+    going_end _ a.at a.to.now l.loop-i.next l.loop-i.to (rw (lines-done a.region.now a.n l.loop-i.i c.loop-i-test.false) at l.loop-i.invariant.2)
 
 pub put_region_spec : {M : Type 1} → statement M
 put_region_spec =

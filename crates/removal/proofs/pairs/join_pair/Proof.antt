@@ -105,7 +105,7 @@ returns-3 c =
     let s = l.before.before.before.before.before.before.before.before.before.before in
     let z = s.args in
     let e = is-limited l.before.before ∙ limited_large _ (within l false c.before.if-within_limit.false) in
-    rw (e, c.refused.ensures) (put_large z.to-1.now z.c (first s) TooLarge refl)
+    rw (e, c.refused.ensures) (put_large z.to.now z.c (first s) TooLarge refl)
 
 returns-4 : tie.Need-returns
 returns-4 c =

@@ -51,7 +51,7 @@ loop-again c =
       omega arith,
       search rules,
       put_all_ready rs wide _ _ _ _ o.invariant.2 d,
-      put_all-left rs wide _ _ _ _ o.invariant.2 d z.to-1.now s.requires.0.long o.invariant.3,
+      put_all-left rs wide _ _ _ _ o.invariant.2 d z.to.now s.requires.0.long o.invariant.3,
       put_row_turn z.uppers.now z.u o.i s.requires.4 z.v m (rows_of m lows) (omega arith) _ _ (put_all-progress rs wide _ _ _ _ o.invariant.2 d) ∙ o.invariant.4,
     )
 
@@ -62,13 +62,13 @@ returns c =
     let s = l.before.before.before in
     let z = s.args in
     let m = z.from.now in
-    rw (← o.invariant.4, put_row-done z.uppers.now z.u o.i s.requires.4 z.v m (rows_of m (take z.l z.lowers.now)) (omega arith) (progress o.to-1 o.d)) o.invariant.3
+    rw (← o.invariant.4, put_row-done z.uppers.now z.u o.i s.requires.4 z.v m (rows_of m (take z.l z.lowers.now)) (omega arith) (progress o.to o.d)) o.invariant.3
 
 pub join_pairs_spec : {M : Type 1} → statement M
 join_pairs_spec =
     tie.close
     (tie.spec invariant-loop decreases-loop
-    (λ c. let s = c.before.before in (omega arith, refl, s.requires.0, ready_left s.args.to-1.now s.args.c s.requires.0, refl))
+    (λ c. let s = c.before.before in (omega arith, refl, s.requires.0, ready_left s.args.to.now s.args.c s.requires.0, refl))
     (λ c. omega (arith, c.before.before.before.before.before.requires.4))
     (λ c. omega (arith, (next-upper c.before).0.room))
     (λ c. omega (arith, (next-upper c.before).0.room))

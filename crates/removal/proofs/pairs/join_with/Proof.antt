@@ -53,7 +53,7 @@ loop-again c =
       omega arith,
       search rules,
       put_ready x.fate x.row small wide _ _ _ _ ready d,
-      put-left x.fate x.row small wide _ _ _ _ ready d z.to-1.now s.requires.0.long l.loop-j.invariant.3,
+      put-left x.fate x.row small wide _ _ _ _ ready d z.to.now s.requires.0.long l.loop-j.invariant.3,
       put_turn z.lowers.now z.l l.loop-j.j s.requires.4 z.v m z.p (omega arith) _ _ (put-progress x.fate x.row small wide _ _ _ _ ready d) ∙ l.loop-j.invariant.4,
     )
 
@@ -63,13 +63,13 @@ returns c =
     let o = l.loop-j in
     let s = l.before.before in
     let z = s.args in
-    rw (← o.invariant.4, put-done z.lowers.now z.l o.j s.requires.4 z.v z.from.now z.p (omega arith) (progress o.to-1 (record { rows = o.rows; outcome = o.outcome }))) o.invariant.3
+    rw (← o.invariant.4, put-done z.lowers.now z.l o.j s.requires.4 z.v z.from.now z.p (omega arith) (progress o.to (record { rows = o.rows; outcome = o.outcome }))) o.invariant.3
 
 pub join_with_spec : {M : Type 1} → statement M
 join_with_spec =
     tie.close
     (tie.spec invariant-loop decreases-loop
-    (λ c. let s = c.before in (omega arith, refl, s.requires.0, ready_left s.args.to-1.now s.args.c s.requires.0, refl))
+    (λ c. let s = c.before in (omega arith, refl, s.requires.0, ready_left s.args.to.now s.args.c s.requires.0, refl))
     (λ c. omega (arith, c.before.before.before.before.requires.4))
     (λ c. omega (arith, (next_small c.before).room))
     (λ c. omega (arith, (next_small c.before).room))

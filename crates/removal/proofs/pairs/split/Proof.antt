@@ -25,7 +25,7 @@ decreases-loop from n v to₀ lowers₀ uppers₀ k₀ l₀ u₀ i₀ to lowers 
 
 loop-holds : tie.Need-loop-i-init invariant-loop decreases-loop
 unfolding numbers_where
-loop-holds c = (omega arith, omega arith, omega arith, omega arith, refl, refl, refl, rw untouched-none refl, rw untouched-none (sym (with_rows-none c.before.before.args.to-1.now)), refl, refl)
+loop-holds c = (omega arith, omega arith, omega arith, omega arith, refl, refl, refl, rw untouched-none refl, rw untouched-none (sym (with_rows-none c.before.before.args.to.now)), refl, refl)
 
 loop-again : tie.Need-loop-i-preserved invariant-loop decreases-loop
 loop-again c =
@@ -40,13 +40,13 @@ loop-again c =
     let e = entry v (row_of m i) in
     let lows = number_passed isBelow v m i o.lowers o.l o.invariant.9 in
     let ups = number_passed isAbove v m i o.uppers o.u o.invariant.10 in
-    let rest = untouched-passed v m i o.k o.to-1 z.to-1.now o.invariant.7 o.invariant.8 in
+    let rest = untouched-passed v m i o.k o.to z.to.now o.invariant.7 o.invariant.8 in
     let other = other_read v m (i * 17) s.requires.1 t.e-1.given in
     ⊎_elim
     (λ w.
     let zero = zero-read v m (i * 17) s.requires.1 t.e-1.given w.0.taken in
     let only = zero-only e zero in
-    let d = untouched-kept v m i o.k o.to-1 z.to-1.now o.invariant.7 o.invariant.8 (omega (arith, s.requires.0.stands.room)) zero _ _ w.1.ensures w.3.ensures in
+    let d = untouched-kept v m i o.k o.to z.to.now o.invariant.7 o.invariant.8 (omega (arith, s.requires.0.stands.room)) zero _ _ w.1.ensures w.3.ensures in
     rw (w.5, w.6, w.7, w.8, w.9, w.10) (omega arith, omega arith, omega arith, omega arith, w.4.given ∙ o.invariant.4, o.invariant.5, o.invariant.6, d.0, d.1, lows only.0, ups only.1))
     (⊎_elim
     (λ w.

@@ -17,18 +17,18 @@ use Rattle.removal.proofs.pairs.without.Tie as tie
 
 -- the numbers that are listed
 abbrev lows : tie.After-split-s → List ℕ
-lows c = take c.split-s.result.lowers-1 c.split-s.new.1.1.1.1.0
+lows c = take c.split-s.result.lowers c.split-s.new.1.1.1.1.0
 
 abbrev ups : tie.After-split-s → List ℕ
-ups c = take c.split-s.result.uppers-1 c.split-s.new.1.1.1.1.1.0
+ups c = take c.split-s.result.uppers c.split-s.new.1.1.1.1.1.0
 
-lowers-fit : (c : tie.After-split-s) → (c.split-s.result.lowers-1 ≤ length c.split-s.new.1.1.1.1.0) × All (λ j. SmallAt c.before.before.before.before.args.from.now (j * row_numbers)) (lows c)
+lowers-fit : (c : tie.After-split-s) → (c.split-s.result.lowers ≤ length c.split-s.new.1.1.1.1.0) × All (λ j. SmallAt c.before.before.before.before.args.from.now (j * row_numbers)) (lows c)
 lowers-fit c =
     let s = c.before.before.before.before in
     let e = c.split-s.ensures.1.1 in
     (part_room c.split-s.new.1.1.1.1.0 _ _ e.0 e.1.0, rw e.1.0 (lowers-small s.args.v s.args.from.now s.args.n s.requires.0.holds))
 
-uppers-fit : (c : tie.After-split-s) → (let z = c.before.before.before.before.args in (c.split-s.result.uppers-1 ≤ length c.split-s.new.1.1.1.1.1.0) × All (λ i. SmallAt z.from.now (i * row_numbers) × IsPos (entry z.v (row_of z.from.now i))) (ups c))
+uppers-fit : (c : tie.After-split-s) → (let z = c.before.before.before.before.args in (c.split-s.result.uppers ≤ length c.split-s.new.1.1.1.1.1.0) × All (λ i. SmallAt z.from.now (i * row_numbers) × IsPos (entry z.v (row_of z.from.now i))) (ups c))
 uppers-fit c =
     let s = c.before.before.before.before in
     let e = c.split-s.ensures.1.1.1.1 in
@@ -41,7 +41,7 @@ join-pairs-requires c κs =
     let z = s.args in
     let e = u.split-s.ensures in
     rw c.with.ensures
-    (untouched_ready z.from.now z.to-1.now z.n z.v s.requires.0 s.requires.3 _ _ e.0 e.1.0, s.requires.2, (lowers-fit u).0, (lowers-fit u).1, (uppers-fit u).0, (uppers-fit u).1)
+    (untouched_ready z.from.now z.to.now z.n z.v s.requires.0 s.requires.3 _ _ e.0 e.1.0, s.requires.2, (lowers-fit u).0, (lowers-fit u).1, (uppers-fit u).0, (uppers-fit u).1)
 
 returns : tie.Need-returns
 returns c =
@@ -53,7 +53,7 @@ returns c =
     let e = u.split-s.ensures in
     let low : rows_of m (lows u) ≡ lowers z.v (set_in m z.n) = rw e.1.1.1.0 (lowers_numbered z.v m z.n) in
     let up : rows_of m (ups u) ≡ uppers z.v (set_in m z.n) = rw e.1.1.1.1.1 (uppers_numbered z.v m z.n) in
-    left-joined m z.to-1.now z.n z.v s.requires.0 s.requires.3 _ _ e.0 e.1.0 _ _ (rw (j.before.with.ensures, low, up) at j.join_pairs.ensures)
+    left-joined m z.to.now z.n z.v s.requires.0 s.requires.3 _ _ e.0 e.1.0 _ _ (rw (j.before.with.ensures, low, up) at j.join_pairs.ensures)
 
 pub without_spec : {M : Type 1} → statement M
 without_spec =

@@ -25,7 +25,7 @@ long c = search rules
 loop-holds : tie.Need-loop-i-init invariant-loop decreases-loop
 loop-holds c =
     let z = c.before.args in
-    (search rules, refl, paste-zero z.s-1.now z.at (numbers z.self))
+    (search rules, refl, paste-zero z.s.now z.at (numbers z.self))
 
 loop-again : tie.Need-loop-i-preserved invariant-loop decreases-loop
 loop-again c =
@@ -34,7 +34,7 @@ loop-again c =
     let z = s.args in (
       search rules,
       simp length-set l.loop-i.invariant.1,
-      number_more z.s-1.now l.loop-i.s z.at z.self (long s) s.requires l.loop-i.i _ (omega arith) l.loop-i.invariant.2 (back w32 _ c.s-1.given),
+      number_more z.s.now l.loop-i.s z.at z.self (long s) s.requires l.loop-i.i _ (omega arith) l.loop-i.invariant.2 (back w32 _ c.s-1.given),
     )
 
 returns : tie.Need-returns invariant-loop decreases-loop
@@ -44,7 +44,7 @@ returns c =
     let z = s.args in
     let f = c.number_of_flag in
     let e : l.loop-i.i ≡ 16 = omega arith in
-    number_last z.s-1.now l.loop-i.s z.at z.self (long s) s.requires _ (rw e at l.loop-i.invariant.2) (back w32 f.result f.type_inv ∙ f.ensures)
+    number_last z.s.now l.loop-i.s z.at z.self (long s) s.requires _ (rw e at l.loop-i.invariant.2) (back w32 f.result f.type_inv ∙ f.ensures)
 
 pub write_spec : {M : Type 1} → statement M
 write_spec =

@@ -65,12 +65,12 @@ use Rattle.zimbralosa.proofs.exports.zimbralosa_region.Code as code
 counted : {R : Run} {c c' : List ℕ} {a b s q : List ℤ} {l : List Record} {t : Answer} {r : ℕ} → Ran R a b s q l t → Counted t c c' r → RegionCounted R c a b s q l c' r
 counted {c = c} h k = record {
   number = k.number ∙ ap (λ (x : Answer). outcome_number x.outcome) h.answer;
-  counts = k.counts-1 ∙ ap (λ (x : Answer). counts_after x c) h.answer;
-  first = h.first-1;
-  second = h.second-1;
-  rows = h.rows-1;
+  counts = k.counts ∙ ap (λ (x : Answer). counts_after x c) h.answer;
+  first = h.first;
+  second = h.second;
+  rows = h.rows;
   result = h.result;
-  roll = h.roll-1;
+  roll = h.roll;
 }
 
 abbrev stayed : Stays (f.ended).signature.params (f.ended).kept

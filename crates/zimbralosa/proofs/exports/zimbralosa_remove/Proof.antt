@@ -13,10 +13,10 @@ returns c =
     let h = c.before.before.before.before.before.before.remove_between-p.ensures in
     let k = c.before.before.put_placed.ensures in
     record {
-      number = k.number ∙ ap (λ (p : Placed). outcome_number p.outcome) h.answer-1;
-      answer = k.answer-1 ∙ ap (λ (p : Placed). placed_after p s.args.answer-1.now) h.answer-1;
-      first = h.first-1;
-      second = h.second-1;
+      number = k.number ∙ ap (λ (p : Placed). outcome_number p.outcome) h.answer;
+      answer = k.answer ∙ ap (λ (p : Placed). placed_after p s.args.answer.now) h.answer;
+      first = h.first;
+      second = h.second;
     }
 
 pub zimbralosa_remove_spec : {M : Type 1} → statement M
