@@ -88,7 +88,7 @@ module _ (c : tie.After-frame-f invariant-loop decreases-loop) where
 -- the frame is taken
 module _ (c : tie.In-Found invariant-loop decreases-loop) where
   abbrev framed : tie.After-frame-f invariant-loop decreases-loop
-  framed = c.before.before
+  framed = c.before
 
   abbrev here : tie.At-loop-at invariant-loop decreases-loop
   here = at-frame framed
@@ -97,7 +97,7 @@ module _ (c : tie.In-Found invariant-loop decreases-loop) where
   f = framed.frame-f.result
 
   was-taken : TakenAs f (reached here).seen (frame (reached here).seen (a-line framed).bytes)
-  was-taken = taken_frame f (reached here).seen _ (told framed) c.enum_told-1.given.1
+  was-taken = taken_frame f (reached here).seen _ (told framed) c.in-Found.is
 
   slots : (f.kind ≡ 4 → here.loop-at.p.transitions < 64) × (f.kind ≡ 3 → here.loop-at.p.rows < 128)
   slots = slot (input here) _ _ _ _ (reached here) (not-at-end (decoded framed)) (a-line framed).bytes (a-line framed).is was-taken.seen f was-taken.is was-taken.met
@@ -145,8 +145,8 @@ returns-2 c = let d = c.before.before.before.before in c.refused-then-not-l.ensu
 
 returns-3 : tie.Need-returns-in-Refused invariant-loop decreases-loop
 returns-3 c =
-    let k = c.before.before in
-    let fr = k.before.before in
+    let k = c.before in
+    let fr = k.before in
     let l = at-frame fr in
     let g = k.o-1.given in
     let e = refused-frame fr.frame-f.result (reached l).seen _ g.0.0 (told fr) g.1 in

@@ -9,7 +9,7 @@ use Rattle.removal.proofs.remove_between.Tie as tie
 
 -- none of the refusals at once applies
 none : (c : tie.In-Found) → (let z = c.before.before.before.before.before.before.args in refused_at_once z.count z.variables.now z.first.now z.second.now ≡ Found)
-none c = sym c.before.before.refused_at_once-o.ensures ∙ c.enum_told-1.given.1
+none c = sym c.before.before.refused_at_once-o.ensures ∙ c.in-Found.is
 
 tidy-requires : tie.Need-tidy-requires
 tidy-requires c κs =
@@ -20,11 +20,11 @@ tidy-requires c κs =
 
 returns : tie.Need-returns-in-Refused
 returns c =
-    let o = c.before.before in
-    let r = o.before.before in
+    let o = c.before in
+    let r = o.before in
     let z = r.before.before.before.before.args in
     rw c.refused.ensures
-    (alone-refused z.count z.variables.now z.first.now z.second.now _ _ r.refused_at_once-o.ensures o.o-1.given.1)
+    (alone-refused z.count z.variables.now z.first.now z.second.now _ _ r.refused_at_once-o.ensures o.in-Refused.is)
 
 returns-2 : tie.Need-returns-in-Found
 returns-2 c =

@@ -51,20 +51,20 @@ told c o e =
 
 loop-again : tie.Need-loop-low-preserved-in-Before invariant-loop decreases-loop
 loop-again c =
-    let o = c.before.before in
+    let o = c.before in
     let l = o.before.before in
-    (omega arith, omega arith, l.loop-low.invariant.2, before_above (row (start o)) l.before.requires.0.ordered empty_row (middle o) (among o) (told o Before c.enum_told-1.given.1))
+    (omega arith, omega arith, l.loop-low.invariant.2, before_above (row (start o)) l.before.requires.0.ordered empty_row (middle o) (among o) (told o Before c.in-Before.is))
 
 loop-again-2 : tie.Need-loop-low-preserved invariant-loop decreases-loop
 loop-again-2 c =
-    let o = c.before.before in
+    let o = c.before in
     let l = o.before.before in
-    (omega arith, omega arith, after-below (row (start o)) l.before.requires.0.ordered empty_row (middle o) (among o) (told o After c.enum_told-in-After-1.given.1), l.loop-low.invariant.3)
+    (omega arith, omega arith, after-below (row (start o)) l.before.requires.0.ordered empty_row (middle o) (among o) (told o After c.in-After.is), l.loop-low.invariant.3)
 
 returns : tie.Need-returns-in-Same invariant-loop decreases-loop
 returns c =
-    let o = c.before.before in
-    place-standing (row (start o)) (start o).requires.0.ordered empty_row (middle o) (among o) (told o _ c.enum_told-in-Same-1.given.1)
+    let o = c.before in
+    place-standing (row (start o)) (start o).requires.0.ordered empty_row (middle o) (among o) (told o _ c.in-Same.is)
 
 returns-2 : tie.Need-returns invariant-loop decreases-loop
 returns-2 c =

@@ -23,39 +23,39 @@ abbrev start : tie.In-At-2 → tie.Start
 start c = c.before.before.before.before
 
 abbrev place : tie.In-At-2 → ℕ
-place c = c.place-1.given.0.0
+place c = c.in-At.k
 
 placed : (c : tie.In-At-2) → At (place c) ≡ place_of (row (start c)) (set_in (start c).args.s.now (start c).args.n)
-placed c = sym c.place-1.given.1 ∙ c.before.before.find-place.ensures
+placed c = sym c.in-At.is ∙ c.before.find-place.ensures
 
 within : (c : tie.In-At-2) → place c ≤ (start c).args.n
 within c = rw length-rows_at at (place-within (row (start c)) (set_in (start c).args.s.now (start c).args.n) (place c) (placed c))
 
-few : (c : tie.Else-n-eq-ROWS) → (start c.before.before).args.n < set_rows
-few c = lt_of_le_of_ne (start c.before.before).requires.0.few c.if-n-eq-ROWS.false
+few : (c : tie.Else-n-eq-ROWS) → (start c.before).args.n < set_rows
+few c = lt_of_le_of_ne (start c.before).requires.0.few c.if-n-eq-ROWS.false
 
 shift-up-requires : tie.Need-shift_up-requires
 shift-up-requires c κs =
-    let p = c.before.before.before in
+    let p = c.before.before in
     (within p, omega (arith, few c.before, (start p).requires.0.long), (start p).requires.0.few)
 
 write-requires : tie.Need-write-requires
 write-requires c κs =
     let e = c.before.before.before.before.before in
-    let p = e.before.before in
+    let p = e.before in
     omega (arith, within p, few e, (start p).requires.0.long, c.before.before.s-1.given)
 
 returns : tie.Need-returns-then-n-eq-ROWS
 returns c =
-    let p = c.before.before in
+    let p = c.before in
     let b = start p in
     left_full b.args.s.now b.args.n (row b) b.pre.0 (place p) (placed p) c.if-n-eq-ROWS.true
 
 returns-2 : tie.Need-returns-in-Standing
 returns-2 c =
-    let f = c.before.before in
+    let f = c.before in
     let b = f.before.before in
-    left-standing b.args.s.now b.args.n (row b) b.requires.0 (sym c.enum_told-1.given.1 ∙ f.find-place.ensures)
+    left-standing b.args.s.now b.args.n (row b) b.requires.0 (sym c.in-Standing.is ∙ f.find-place.ensures)
 
 returns-3 : tie.Need-returns-else-n-eq-ROWS
 returns-3 c =
@@ -63,7 +63,7 @@ returns-3 c =
     let r = w.before.before in
     let u = r.before.before in
     let e = u.before.before in
-    let p = e.before.before in
+    let p = e.before in
     let b = start p in
     left_inserted b.args.s.now b.args.n (row b) b.pre.0 (place p) (placed p) (wide-row_at b.args.x.now b.args.at b.pre.1) (few e) _ _
     u.shift_up.ensures (rw r.read.ensures at w.write.ensures)
@@ -80,7 +80,7 @@ insert_spec =
     returns
     shift-up-requires
     (λ c κs. search rules)
-    (λ c. omega (arith, within c.before.before.before.before.before.before.before))
+    (λ c. omega (arith, within c.before.before.before.before.before.before))
     write-requires
     (λ c. search rules)
     (λ c. search rules)

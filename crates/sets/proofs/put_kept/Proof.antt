@@ -21,23 +21,23 @@ alone c = let b = c.before.before in rw c.write.ensures (row_back b.args.row _ (
 insert-requires : tie.Need-insert-requires
 insert-requires c κs =
     let t = c.before.before in
-    let w = t.before.before.before in
+    let w = t.before.before in
     let b = w.before.before in
-    (ready_holds b.args.s.now b.args.c b.requires t.enum_told-1.given.1, rw (w.write.ensures, length-append, length-numbers b.args.row (wide b)) (omega arith))
+    (ready_holds b.args.s.now b.args.c b.requires t.in-Found.is, rw (w.write.ensures, length-append, length-numbers b.args.row (wide b)) (omega arith))
 
 returns : tie.Need-returns-in-Found
 returns c =
     let i = c.before.before in
     let t = i.before.before.before in
-    let w = t.before.before.before in
+    let w = t.before.before in
     let z = w.before.before.args in
-    rw c.counted.ensures (put_inserted z.s.now z.c z.row t.enum_told-1.given.1 _ _ (rw (alone w) at i.insert.ensures))
+    rw c.counted.ensures (put_inserted z.s.now z.c z.row t.in-Found.is _ _ (rw (alone w) at i.insert.ensures))
 
 returns-2 : tie.Need-returns-in-Refused
 returns-2 c =
-    let b = c.before.before.before.before.before in
+    let b = c.before.before.before.before in
     let z = b.args in
-    put_refused z.s.now z.c z.row b.requires _ c.enum_told-in-Refused-1.given.1
+    put_refused z.s.now z.c z.row b.requires _ c.in-Refused.is
 
 pub put_kept_spec : {M : Type 1} → statement M
 put_kept_spec =

@@ -7,17 +7,17 @@ use Rattle.sets.proofs.put_settled.Tie as tie
 
 returns : tie.Need-returns-in-Gone
 returns c =
-    let b = c.before.before in
+    let b = c.before in
     let z = b.args in
-    put-gone z.s.now z.c (row_at z.x.now 0) z.fate b.requires.0 c.enum_told-1.given.1
+    put-gone z.s.now z.c (row_at z.x.now 0) z.fate b.requires.0 c.in-Gone.is
 
 returns-2 : tie.Need-returns-in-TooLarge
 returns-2 c =
-    let z = c.before.before.before.args in
-    rw c.refused.ensures (put_large z.s.now z.c (row_at z.x.now 0) z.fate c.before.enum_told-in-TooLarge-1.given.1)
+    let z = c.before.before.args in
+    rw c.refused.ensures (put_large z.s.now z.c (row_at z.x.now 0) z.fate c.before.in-TooLarge.is)
 
 returns-3 : tie.Need-returns-in-Kept
-returns-3 c = rw c.before.before.before.enum_told-in-Kept-1.given.1 c.before.put_row.ensures
+returns-3 c = rw c.before.before.before.in-Kept.is c.before.put_row.ensures
 
 pub put_settled_spec : {M : Type 1} → statement M
 put_settled_spec =

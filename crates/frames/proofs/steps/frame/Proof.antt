@@ -54,12 +54,12 @@ module _ (c : tie.After-placed-o) where
   few-terms = rw c.before.before.before.before.held-n.ensures at (omega-small c)
 
 module _ (c : tie.In-Found) where
-  place : InPlace (p c.before.before) (get_or (to c.before.before) 0 0) ((start c.before.before).args.count - 1) (term_count (shown c.before.before))
-  place = in_place _ _ _ _ (sym (read c.before.before) ∙ c.enum_told-1.given.1)
+  place : InPlace (p c.before) (get_or (to c.before) 0 0) ((start c.before).args.count - 1) (term_count (shown c.before))
+  place = in_place _ _ _ _ (sym (read c.before) ∙ c.in-Found.is)
 
-  fits : (start c.before.before).args.count ≤ frame_limit
+  fits : (start c.before).args.count ≤ frame_limit
   fits =
-      let o = c.before.before in
+      let o = c.before in
       omega (arith, place.size, due-small (p o).header (get_or (to o) 0 0) (term_count (shown o)) (start o).requires.0 (few-terms o), some o)
 
 returns : tie.Need-returns-then-count-eq0
@@ -76,7 +76,7 @@ part-b-end c = let h = n-is c.before in omega arith
 
 content-requires : tie.Need-content-requires
 content-requires c κs =
-    let o = c.before.before in
+    let o = c.before in
     let s = start o in
     rw o.before.before.before.before.held-n.ensures (
       s.pre.0,
@@ -88,20 +88,20 @@ content-requires c κs =
 returns-2 : tie.Need-returns-in-Found
 returns-2 c s bs e size same =
     let t = c.before in
-    let o = t.before.before in
+    let o = t.before in
     let g : Told c.content.result s (content s (get_or (to o) 0 0) (shown o)) =
     rw o.before.before.before.before.held-n.ensures at (c.content.ensures s (ap (λ (q : Progress). q.header) e)) in
     let w = whole-shown (to o) bs (start o).args.count size (start o).requires.1 same (some o) (fits t) in
     let is : frame s bs ≡ content s (get_or (to o) 0 0) (shown o) =
-    frame-told o s bs e size same ∙ ap (λ (q : Outcome). passed q (content s (get_or (to o) 0 0) (drop 1 bs))) t.enum_told-1.given.1 ∙ ap (content s (get_or (to o) 0 0)) (sym w) in
+    frame-told o s bs e size same ∙ ap (λ (q : Outcome). passed q (content s (get_or (to o) 0 0) (drop 1 bs))) t.in-Found.is ∙ ap (content s (get_or (to o) 0 0)) (sym w) in
     rw is g
 
 returns-3 : tie.Need-returns-in-Refused
 returns-3 c s bs e size same =
-    let k = c.before.before in
-    let o = k.before.before in
-    let is : frame s bs ≡ refused k.o-1.given.0.0 =
-    frame-told o s bs e size same ∙ ap (λ (q : Outcome). passed q (content s (get_or (to o) 0 0) (drop 1 bs))) k.o-1.given.1 in
+    let k = c.before in
+    let o = k.before in
+    let is : frame s bs ≡ refused k.in-Refused.q =
+    frame-told o s bs e size same ∙ ap (λ (q : Outcome). passed q (content s (get_or (to o) 0 0) (drop 1 bs))) k.in-Refused.is in
     rw is c.blank-in-Refused.ensures.1
 
 pub frame_spec : {M : Type 1} → statement M

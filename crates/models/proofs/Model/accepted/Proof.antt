@@ -50,29 +50,29 @@ returns-3 c =
 
 reference-outcome-requires : tie.Need-reference_outcome-requires
 reference-outcome-requires c κs =
-    let o = c.before.before in
+    let o = c.before in
     let e = o.before in
-    let rows = past-rows (m e).header (given_rows (m e)) Found (sym o.rows_outcome-o.ensures ∙ c.enum_told-1.given.1) in
+    let rows = past-rows (m e).header (given_rows (m e)) Found (sym o.rows_outcome-o.ensures ∙ c.in-Found.is) in
     (all_map (λ r h. terms-small r.entries h.1) rows.0, reference-within _ _ (reference e.before.before), parameters-within (m e).header (header e.before.before.before.before))
 
 returns-4 : tie.Need-returns-in-Found
 unfolding accepted
 returns-4 c =
-    let o = c.before.before.before in
+    let o = c.before.before in
     let e = o.before in
     rw (
       header e.before.before.before.before,
       reference e.before.before,
       transitions e,
-      rows-found (m e).header (given_rows (m e)) _ (sym o.rows_outcome-o.ensures ∙ c.before.enum_told-1.given.1),
+      rows-found (m e).header (given_rows (m e)) _ (sym o.rows_outcome-o.ensures ∙ c.before.in-Found.is),
     ) c.reference_outcome.ensures
 
 returns-5 : tie.Need-returns-in-Refused
 unfolding accepted
 returns-5 c =
-    let o = c.before.before.before in
+    let o = c.before in
     let e = o.before in
-    let g = c.before.o-1.given in
+    let g = c.o-1.given in
     rw (
       header e.before.before.before.before,
       reference e.before.before,

@@ -50,20 +50,20 @@ loop-holds c = (search rules, rw c.held-n.ensures (held-few c.before.before.args
 
 returns : tie.Need-returns-in-Refused invariant-loop decreases-loop
 returns c =
-    let o = c.before.before.before in
+    let o = c.before in
     let l = o.before.before.before in
     let h : l.loop-i.i < l.before.held-n.result = omega arith in
-    let g = c.before.o-1.given in
+    let g = c.o-1.given in
     sym (row_stops (m l).header (r l) (drop (l.loop-i.i + 1) (given_rows (m l))) Found g.0.0 (sym (read o h) ∙ g.1)) ∙ left l h
 
 loop-again : tie.Need-loop-i-preserved invariant-loop decreases-loop
 loop-again c =
-    let o = c.before.before in
+    let o = c.before in
     let l = o.before.before.before in
     let h : l.loop-i.i < l.before.held-n.result = omega arith in (
       search rules,
       l.loop-i.invariant.1,
-      sym (row-passes (m l).header (r l) (drop (l.loop-i.i + 1) (given_rows (m l))) Found (sym (read o h) ∙ c.enum_told-1.given.1)) ∙ left l h,
+      sym (row-passes (m l).header (r l) (drop (l.loop-i.i + 1) (given_rows (m l))) Found (sym (read o h) ∙ c.in-Found.is)) ∙ left l h,
     )
 
 returns-2 : tie.Need-returns invariant-loop decreases-loop

@@ -11,5 +11,5 @@ of_spec =
     (λ c. search rules)
     (λ c. search rules)
     (λ c κs. search rules)
-    (λ c. rw c.enum_told-1.given.1 refl)
-    (λ c. rw c.before.before.o-1.given.1 c.refused.ensures))
+    (λ c. rw c.in-Found.is refl)
+    (λ c. rw c.before.in-Refused.is c.refused.ensures))
