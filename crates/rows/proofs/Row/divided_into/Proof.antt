@@ -11,7 +11,7 @@ use lib.Signed.{mag, le_z}
 use mir.Syntax.{w32}
 use Rattle.integers.specs.Signs.{is_zero}
 use Rattle.integers.proofs.Bounds.{back, bits-zero, zero_bits}
-use Rattle.integers.proofs.Elements.{i32_field}
+use Rattle.integers.proofs.Elements.{i32_array}
 use Rattle.entries.proofs.Nonzero.{first-zero}
 use Rattle.rows.specs.Rows.{all_zero, divided_down}
 use Rattle.rows.proofs.Lowering.{down_constant}
@@ -20,7 +20,7 @@ use Rattle.rows.proofs.Row.divided_into.Statement.{statement}
 use Rattle.rows.proofs.Row.divided_into.Tie as tie
 
 entry : (c : tie.Start) (i : ℕ) → nat_abs (get_or c.args.self.entries i (pos 0)) ≤ 2147483648
-entry c i = search i32_field
+entry c i = search i32_array
 
 -- whether a variable is named, by the first entry that is not 0
 named : (c : tie.After-first_variable-x) (b : Bool) → is_zero c.first_variable-x.result ≡ b → all_zero (drop 1 c.before.before.args.self.entries) ≡ b
