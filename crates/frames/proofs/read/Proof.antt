@@ -74,7 +74,7 @@ module _ (c : tie.After-frame-f invariant-loop decreases-loop) where
   at-frame = at-line decoded
 
   abbrev bytes : List ℕ
-  bytes = decoded.decode-l.last.1.1.0
+  bytes = decoded.decode-l.new.to
 
   a-line : LineIs (first_bytes (rest at-frame)) bytes decoded.decode-l.result
   a-line = good_line (first_bytes (rest at-frame)) bytes decoded.decode-l.result decoded.decode-l.ensures.1 (not-false decoded.decode-l.result.good c.before.before.if-not-l.false)

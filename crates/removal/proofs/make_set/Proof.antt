@@ -38,13 +38,13 @@ loop-again c =
     let p = c.before in
     let t = p.before.before.before.before.before in
     let l = t.before in
-    let b = l.before.before in
+    let b = l.before in
     let s = l.loop-i.s in
     let i = l.loop-i.i in
     let v = l.loop-i.invariant in
     let r = row_at s (i * 17) in
     let x = divided_down r in
-    let d : Left (next x.fate x.row (progress s l.loop-i.c)) s p.put-c.new.0 p.put-c.result = rw (settled p.before) at p.put-c.ensures in
+    let d : Left (next x.fate x.row (progress s l.loop-i.c)) s p.put-c.new.s p.put-c.result = rw (settled p.before) at p.put-c.ensures in
     let small = divided_down-small r in
     let wide = divided_down-wide r (wide-row_at s (i * 17) (omega (arith, b.requires, t.loop-i-test.true, v.1))) in
     let e = put-progress x.fate x.row small wide _ _ _ _ v.2 d in (
@@ -68,8 +68,8 @@ make_set_spec =
     (tie.spec invariant-loop decreases-loop
     (λ c κs. search rules)
     loop-holds
-    (λ c. omega (arith, c.before.before.before.before.before.requires.0))
-    (λ c κs. omega (arith, c.before.before.before.before.before.requires, c.before.before.before.loop-i.invariant.1))
+    (λ c. omega (arith, c.before.before.before.before.requires.0))
+    (λ c κs. omega (arith, c.before.before.before.before.requires, c.before.before.before.loop-i.invariant.1))
     (λ c κs. search rules)
     (λ c κs. c.before.before.before.before.before.loop-i.invariant.2)
     (λ c. search rules)

@@ -19,16 +19,16 @@ abbrev row : tie.Start → Row
 row b = row_at b.args.x.now b.args.at
 
 -- where the row does not stand there: the function's beginning, the place, and what is known of it
-abbrev start : tie.In-At-2 → tie.Start
-start c = c.before.before.before.before
+abbrev start : tie.In-At → tie.Start
+start c = c.before.before
 
-abbrev place : tie.In-At-2 → ℕ
+abbrev place : tie.In-At → ℕ
 place c = c.in-At.k
 
-placed : (c : tie.In-At-2) → At (place c) ≡ place_of (row (start c)) (set_in (start c).args.s.now (start c).args.n)
-placed c = sym c.in-At.is ∙ c.before.find-place.ensures
+placed : (c : tie.In-At) → At (place c) ≡ place_of (row (start c)) (set_in (start c).args.s.now (start c).args.n)
+placed c = sym c.in-At.is ∙ c.find-place.ensures
 
-within : (c : tie.In-At-2) → place c ≤ (start c).args.n
+within : (c : tie.In-At) → place c ≤ (start c).args.n
 within c = rw length-rows_at at (place-within (row (start c)) (set_in (start c).args.s.now (start c).args.n) (place c) (placed c))
 
 few : (c : tie.Else-n-eq-ROWS) → (start c.before).args.n < set_rows
@@ -49,12 +49,12 @@ returns : tie.Need-returns-then-n-eq-ROWS
 returns c =
     let p = c.before in
     let b = start p in
-    left_full b.args.s.now b.args.n (row b) b.pre.0 (place p) (placed p) c.if-n-eq-ROWS.true
+    left_full b.args.s.now b.args.n (row b) b.requires.0 (place p) (placed p) c.if-n-eq-ROWS.true
 
 returns-2 : tie.Need-returns-in-Standing
 returns-2 c =
     let f = c.before in
-    let b = f.before.before in
+    let b = f.before in
     left-standing b.args.s.now b.args.n (row b) b.requires.0 (sym c.in-Standing.is ∙ f.find-place.ensures)
 
 returns-3 : tie.Need-returns-else-n-eq-ROWS
@@ -65,7 +65,7 @@ returns-3 c =
     let e = u.before.before in
     let p = e.before in
     let b = start p in
-    left_inserted b.args.s.now b.args.n (row b) b.pre.0 (place p) (placed p) (wide-row_at b.args.x.now b.args.at b.pre.1) (few e) _ _
+    left_inserted b.args.s.now b.args.n (row b) b.requires.0 (place p) (placed p) (wide-row_at b.args.x.now b.args.at b.requires.1) (few e) _ _
     u.shift_up.ensures (rw r.read.ensures at w.write.ensures)
 
 pub insert_spec : {M : Type 1} → statement M

@@ -40,7 +40,7 @@ returns-2 c =
     rw c.refused.ensures (put_large b.args.to.now b.args.c (divided_down (row b)).row (divided_down (row b)).fate (ap (λ (x : Settled). x.fate) e))
 
 -- what was written is read back
-alone : (c : tie.After-divided_into-fate) → row_at c.divided_into-fate.new.1.0 0 ≡ (divided_down (row c.before.before.before.before.before)).row
+alone : (c : tie.After-divided_into-fate) → row_at c.divided_into-fate.new.to 0 ≡ (divided_down (row c.before.before.before.before.before)).row
 alone c =
     let g = c.before.before.before.before in
     let b = g.before in

@@ -15,7 +15,7 @@ wide : (b : tie.Start) → Wide b.args.row
 wide b = search rules
 
 -- what was written is read back
-alone : (c : tie.After-write) → row_at c.write.new.1.0 0 ≡ c.before.before.args.row
+alone : (c : tie.After-write) → row_at c.write.new.s 0 ≡ c.before.before.args.row
 alone c = let b = c.before.before in rw c.write.ensures (row_back b.args.row _ (wide b))
 
 insert-requires : tie.Need-insert-requires

@@ -22,7 +22,7 @@ module _ (s : tie.Start) where
   room : (length head ≡ 10) × (s.args.at + (length head + length terms + 1) ≤ length s.args.to.now)
   room =
       let e = row_digits s.args.r in
-      (digits_length (row_head s.args.r.strict (term_number s.args.r.entries)), omega (arith, s.pre, ap length e, length-append (head ++ terms) (10 ∷ []), length-append head terms))
+      (digits_length (row_head s.args.r.strict (term_number s.args.r.entries)), omega (arith, s.requires, ap length e, length-append (head ++ terms) (10 ∷ []), length-append head terms))
 
 put-head-requires : tie.Need-put_head-terms-requires
 put-head-requires c κs = let r = room c.before.before.before.before in omega (arith, r.0, r.1)

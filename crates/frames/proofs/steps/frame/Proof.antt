@@ -47,7 +47,7 @@ module _ (c : tie.After-placed-o) where
   frame-told : (s : Seen) (bs : List ℕ) → progress_of s ≡ p → length bs ≡ start.args.count → take start.args.count to ≡ take frame_limit bs →
       frame s bs ≡ passed c.placed-o.result (content s (get_or to 0 0) (drop 1 bs))
   frame-told s bs e size same =
-      frame-shown to bs start.args.count size start.pre.1 same some s ∙
+      frame-shown to bs start.args.count size start.requires.1 same some s ∙
       ap (λ (o : Outcome). passed o (content s (get_or to 0 0) (drop 1 bs))) (ap (λ (q : Progress). placed q (get_or to 0 0) (start.args.count - 1) (term_count shown)) e ∙ sym read)
 
   few-terms : term_count shown < 256
@@ -79,10 +79,10 @@ content-requires c κs =
     let o = c.before in
     let s = start o in
     rw o.before.before.before.before.held-n.ensures (
-      s.pre.0,
+      s.requires.0,
       (place c).low,
       (place c).high,
-      shown-length (to o) s.args.count s.pre.1 (fits c) ∙ (place c).size,
+      shown-length (to o) s.args.count s.requires.1 (fits c) ∙ (place c).size,
     )
 
 returns-2 : tie.Need-returns-in-Found

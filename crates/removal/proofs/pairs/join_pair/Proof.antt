@@ -96,7 +96,7 @@ returns-2 c =
     let a = l.before.before.before.before in
     let s = a.before.before.before.before.before.before in
     let r = added (first s) (second s) in
-    let back : row_at w.write.new.1.0 0 ≡ r = rw (w.write.ensures, is_sum a) (row_back r _ (sum-wide s)) in
+    let back : row_at w.write.new.s 0 ≡ r = rw (w.write.ensures, is_sum a) (row_back r _ (sum-wide s)) in
     rw (is-limited l.before.before ∙ limited-kept r (within l true w.before.before.if-within_limit.true)) (rw back at c.before.put_row.ensures)
 
 returns-3 : tie.Need-returns-then-has_one
@@ -114,7 +114,7 @@ returns-4 c =
     let a = d.before.before.before.before in
     let s = a.before.before.before.before.before.before in
     let r = added (first s) (second s) in
-    let back : row_at d.divided_into-fate.new.1.0 0 ≡ (divided_down r).row = rw (d.divided_into-fate.ensures.1, is_sum a) (row_back (divided_down r).row [] (settled_wide r (sum-wide s))) in
+    let back : row_at d.divided_into-fate.new.to 0 ≡ (divided_down r).row = rw (d.divided_into-fate.ensures.1, is_sum a) (row_back (divided_down r).row [] (settled_wide r (sum-wide s))) in
     rw (alike a.before.before.before) (rw (back, d.divided_into-fate.ensures.0, is_sum a) at p.put_settled.ensures)
 
 pub join_pair_spec : {M : Type 1} → statement M
