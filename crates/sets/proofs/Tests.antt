@@ -25,6 +25,7 @@ or_right false e = e
 
 pub in_stands_in : (r : Row) (l : List Row) → In r l → stands_in r l ≡ true
 unfolding stands_in
+in_stands_in r [] i = elim i [ ]
 in_stands_in r (s ∷ l) (here e) = rw (← e, same_row_itself r) refl
 in_stands_in r (s ∷ l) (there i) = or_right (same_row r s) (in_stands_in r l i)
 

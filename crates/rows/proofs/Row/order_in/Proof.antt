@@ -29,7 +29,7 @@ by_front c o e =
 order-of-four-requires-2 : tie.Need-order_of_four-requires
 order-of-four-requires-2 c κs =
     let d = c.before in
-    let s = d.before.before in
+    let s = d.before.before.before in
     let z = s.args in
     let h = other_found z.s.now z.t.now z.a z.b (flags s) (rw d.first_other-k.ensures at c.if-k-lt-ENTRIES.true) in
     rw d.first_other-k.ensures (omega arith, omega arith)
@@ -37,23 +37,23 @@ order-of-four-requires-2 c κs =
 returns : tie.Need-returns-then-k-lt-ENTRIES
 returns c =
     let d = c.before.before in
-    let f = d.before in
+    let f = d.before.before in
     let z = f.before.args in
     let h = other_found z.s.now z.t.now z.a z.b (flags f.before) (rw d.first_other-k.ensures at c.before.if-k-lt-ENTRIES.true) in
     c.order_of_four.ensures ∙ (rw d.first_other-k.ensures h.1) ∙ by_front f Same d.before.in-Same.is
 
 returns-2 : tie.Need-returns-in-Before
-returns-2 c = by_front c Before c.in-Before.is
+returns-2 c = by_front c.before Before c.in-Before.is
 
 returns-3 : tie.Need-returns-in-After
-returns-3 c = by_front c After c.in-After.is
+returns-3 c = by_front c.before After c.in-After.is
 
 returns-4 : tie.Need-returns-else-k-lt-ENTRIES
 returns-4 c =
     let q = c.before in
     let p = q.before in
     let d = p.before.before in
-    let f = d.before in
+    let f = d.before.before in
     let z = f.before.args in
     (rw (flag-read (get_or z.s.now (z.a + 16) (pos 0)) p.order_of_flags-arg-1.given, flag-read (get_or z.t.now (z.b + 16) (pos 0)) q.order_of_flags-arg-in-Same-1.given) at c.order_of_flags.ensures) ∙
     other_none z.s.now z.t.now z.a z.b (flags f.before) (rw d.first_other-k.ensures at p.before.if-k-lt-ENTRIES.false) ∙
