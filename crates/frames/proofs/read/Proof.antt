@@ -35,10 +35,10 @@ module _ (l : tie.At-loop-at invariant-loop decreases-loop) where
   rest = drop l.loop-at.at input
 
   abbrev reached : Reached input l.loop-at.p l.loop-at.transitions l.loop-at.rows l.loop-at.at
-  reached = l.loop-at.inv.3
+  reached = l.loop-at.invariant.3
 
   all : read input ≡ remaining nothing input
-  all = read_short input l.loop-at.inv.2
+  all = read_short input l.loop-at.invariant.2
 
 returns : tie.Need-returns-then-input-gt65536 invariant-loop decreases-loop
 returns c = c.refused.ensures ∙ sym (ap reading_of (read-long c.before.before.before.args.input.now c.before.if-input-gt65536.true))
@@ -108,13 +108,13 @@ frame-requires c κs =
     ((reached_few _ _ _ _ _ (reached (at-line d))).0, d.decode-l.ensures.0)
 
 mul_at : tie.Need-overflow_mul-at invariant-loop decreases-loop
-mul_at c = let h = next-within (framed c.before) in let k = (here c.before).loop-at.inv.2 in omega arith
+mul_at c = let h = next-within (framed c.before) in let k = (here c.before).loop-at.invariant.2 in omega arith
 
 add_at : tie.Need-overflow_add-at invariant-loop decreases-loop
-add_at c = let h = next-within (framed c.before) in let k = (here c.before).loop-at.inv.2 in omega arith
+add_at c = let h = next-within (framed c.before) in let k = (here c.before).loop-at.invariant.2 in omega arith
 
 add-at-2 : tie.Need-overflow_add-at-in-loop-at invariant-loop decreases-loop
-add-at-2 c = let h = next-within (framed c.before) in let k = (here c.before).loop-at.inv.2 in omega arith
+add-at-2 c = let h = next-within (framed c.before) in let k = (here c.before).loop-at.invariant.2 in omega arith
 
 after-requires : tie.Need-after-p-requires invariant-loop decreases-loop
 after-requires c κs = let r = reached_few _ _ _ _ _ (reached (here c.before)) in (r.1, r.2)
@@ -148,10 +148,9 @@ returns-3 c =
     let k = c.before in
     let fr = k.before in
     let l = at-frame fr in
-    let g = k.o-1.given in
-    let e = refused-frame fr.frame-f.result (reached l).seen _ g.0.0 (told fr) g.1 in
+    let e = refused-frame fr.frame-f.result (reached l).seen _ k.in-Refused.q (told fr) k.in-Refused.is in
     c.refused-in-Refused.ensures ∙
-    sym (ap reading_of (all l ∙ ends-refused (input l) _ _ _ _ (reached l) (not-at-end (decoded fr)) (a-line fr).bytes (a-line fr).is g.0.0 e))
+    sym (ap reading_of (all l ∙ ends-refused (input l) _ _ _ _ (reached l) (not-at-end (decoded fr)) (a-line fr).bytes (a-line fr).is k.in-Refused.q e))
 
 loop-again : tie.Need-loop-at-preserved-then-kind-eq4 invariant-loop decreases-loop
 loop-again c =

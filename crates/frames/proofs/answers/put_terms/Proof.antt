@@ -33,7 +33,7 @@ module _ (l : tie.At-loop-i invariant-loop decreases-loop) where
 
   now-digits : l.loop-i.i < 16 → Going (digits_of (terms_of 0 e)) l.before.before.args.at l.before.before.args.to.now
       (digits_of (term_bytes l.loop-i.i z) ++ digits_of (terms_of (l.loop-i.i + 1) (drop (l.loop-i.i + 1) e))) l.loop-i.next l.loop-i.to
-  now-digits h = rw (terms_digits e l.loop-i.i (omega (arith, long l.before.before))) at l.loop-i.inv.2
+  now-digits h = rw (terms_digits e l.loop-i.i (omega (arith, long l.before.before))) at l.loop-i.invariant.2
 
 put-term-requires : tie.Need-put_term-next-requires invariant-loop decreases-loop
 put-term-requires c κs =

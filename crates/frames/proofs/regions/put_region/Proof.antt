@@ -36,7 +36,7 @@ module _ (l : tie.At-loop-i invariant-loop decreases-loop) where
   more = row_lines (from_row s n (l.loop-i.i + 1))
 
   now-line : l.loop-i.i < n → Going (row_lines (rows_at s 0 n)) l.before.before.args.at l.before.before.args.to.now (line ++ more) l.loop-i.next l.loop-i.to
-  now-line h = rw (lines_turn s n l.loop-i.i h) at l.loop-i.inv.2
+  now-line h = rw (lines_turn s n l.loop-i.i h) at l.loop-i.invariant.2
 
 put-row-requires : tie.Need-put_row-next-requires invariant-loop decreases-loop
 put-row-requires c κs =

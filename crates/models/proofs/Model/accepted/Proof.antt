@@ -16,10 +16,10 @@ use Rattle.models.proofs.Model.accepted.Tie as tie
 
 -- the tests that were passed, and the model that they are of
 header : (c : tie.Else-not-fits) → header_fits c.before.before.before.before.args.self.header ≡ true
-header c = sym c.before.fits-2.ensures ∙ not-false c.before.fits-2.result c.if-not-fits.false-raw
+header c = sym c.before.fits.ensures ∙ not-false c.before.fits.result c.if-not-fits.false-raw
 
 reference : (c : tie.Else-not-fits-2) → reference_fits (given_reference c.before.before.before.before.before.before.args.self) ≡ true
-reference c = sym c.before.fits3.ensures ∙ not-false c.before.fits3.result c.if-not-fits-2.false-raw
+reference c = sym c.before.fits-2.ensures ∙ not-false c.before.fits-2.result c.if-not-fits-2.false-raw
 
 module _ (c : tie.Else-not-transitions_declared) where
   abbrev m : Model
@@ -30,14 +30,14 @@ module _ (c : tie.Else-not-transitions_declared) where
 
 returns : tie.Need-returns-then-not-fits
 unfolding accepted
-returns c = rw (sym c.before.fits-2.ensures ∙ not-true c.before.fits-2.result c.if-not-fits.true-raw)
+returns c = rw (sym c.before.fits.ensures ∙ not-true c.before.fits.result c.if-not-fits.true-raw)
 
 fits-requires-2 : tie.Need-fits-requires-2
 fits-requires-2 c κs = parameters-within c.before.before.before.before.args.self.header (header c)
 
 returns-2 : tie.Need-returns-then-not-fits-2
 unfolding accepted
-returns-2 c = rw (header c.before.before, sym c.before.fits3.ensures ∙ not-true c.before.fits3.result c.if-not-fits-2.true-raw)
+returns-2 c = rw (header c.before.before, sym c.before.fits-2.ensures ∙ not-true c.before.fits-2.result c.if-not-fits-2.true-raw)
 
 transitions-declared-requires : tie.Need-transitions_declared-requires
 transitions-declared-requires c κs = transitions-within c.before.before.before.before.before.before.args.self.header (header c.before.before)
@@ -72,12 +72,11 @@ unfolding accepted
 returns-5 c =
     let o = c.before in
     let e = o.before in
-    let g = c.o-1.given in
     rw (
       header e.before.before.before.before,
       reference e.before.before,
       transitions e,
-      rows-refused (m e).header (given_rows (m e)) _ g.0.0 (sym o.rows_outcome-o.ensures ∙ g.1),
+      rows-refused (m e).header (given_rows (m e)) _ c.in-Refused.q (sym o.rows_outcome-o.ensures ∙ c.in-Refused.is),
     )
 
 pub accepted_spec : {M : Type 1} → statement M

@@ -36,7 +36,7 @@ module _ (l : tie.At-loop-i invariant-loop decreases-loop) where
   all = held-length m.count m.rows (long l.before.before.before) ∙ sym l.before.held-n.ensures
 
   left : l.loop-i.i < l.before.held-n.result → rows_accepted m.header (r ∷ drop (l.loop-i.i + 1) (given_rows m)) Found ≡ rows_accepted m.header (given_rows m) Found
-  left h = rw (drop_turn (given_rows m) l.loop-i.i no_row (rw all h)) at l.loop-i.inv.2
+  left h = rw (drop_turn (given_rows m) l.loop-i.i no_row (rw all h)) at l.loop-i.invariant.2
 
 read : (c : tie.After-outcome-o invariant-loop decreases-loop) →
     let l = c.before.before.before in
@@ -53,8 +53,7 @@ returns c =
     let o = c.before in
     let l = o.before.before.before in
     let h : l.loop-i.i < l.before.held-n.result = omega arith in
-    let g = c.o-1.given in
-    sym (row_stops (m l).header (r l) (drop (l.loop-i.i + 1) (given_rows (m l))) Found g.0.0 (sym (read o h) ∙ g.1)) ∙ left l h
+    sym (row_stops (m l).header (r l) (drop (l.loop-i.i + 1) (given_rows (m l))) Found c.in-Refused.q (sym (read o h) ∙ c.in-Refused.is)) ∙ left l h
 
 loop-again : tie.Need-loop-i-preserved invariant-loop decreases-loop
 loop-again c =
