@@ -82,6 +82,7 @@ all_removed_other u h vs = all_removed-keeps (All (Blind u)) vs (removed_other u
 -- each of the removed variables is gone
 pub all_removed_self : (vs : List ℕ) (u : ℕ) → 0 < u → In u vs → (s t : List Row) → all_removed vs s ≡ found t → All (Blind u) t
 unfolding all_removed
+all_removed_self [] u h i s t e = elim i [ ]
 all_removed_self (v ∷ vs) u h (here f) s t e =
     let x = then_found (removed v s) (λ y. all_removed vs y) t e in
     all_removed_other u h vs x.mid t x.second (removed_self u h s x.mid (subst (λ (k : ℕ). removed k s ≡ found x.mid) (sym f) x.first))

@@ -1,6 +1,6 @@
 -- Removal between two lent stores, and removal called alone (rules, "Rows and sets" and "Numbers of the outcomes").
 use Rattle.std.specs.Prelude.{◌≡◌, Bool, true, false, not, cond, ◌&&◌, ◌||◌, List, [], ◌∷◌, ◌++◌, ℕ, zero, suc, ◌+◌, ◌*◌, ◌≤◌, leb, ltb, length, take, drop, get_or, ℤ, pos}
-use Rattle.std.specs.Borrow.{Bor}
+use Rattle.std.specs.Borrow.{Bor, MutBor}
 use Rattle.integers.specs.Lists.{All, every, from}
 use Rattle.integers.specs.Signs.{is_zero}
 use Rattle.rows.specs.declared.Row.{Row}
@@ -148,6 +148,10 @@ pub record RemovedAlone (count : ℕ) (vs : List ℕ) (a b a' b' : List ℤ) (r 
 -- ---- the part of the store that ended with the rows; an answer that does not fit its store has none
 unfoldable pub part_end : ℕ → ℕ → ℕ
 part_end long rows = cond (leb rows set_rows && leb (rows * row_numbers) long) (rows * row_numbers) 0
+
+-- what a `&mut` points to and where, as a `&` shows it
+abbrev pub as_shared : {A : Type 0} → MutBor A → Bor A
+as_shared x = record { ref_ptr = x.ref_ptr; now = x.now }
 
 pub record PartIs (a b : Bor (List ℤ)) (r : Placed) (p : Bor (List ℤ)) : Type 0 where
   pub numbers : p.now ≡ take (part_end (length (pick r.second a.now b.now)) r.rows) (pick r.second a.now b.now)

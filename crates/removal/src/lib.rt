@@ -10,7 +10,7 @@ ghost use Rattle.sets.specs.Outcomes.{refused, and_then};
 ghost use Rattle.sets.specs.Sets.{joined};
 ghost use Rattle.sets.specs.Stores.{rows_at, Left};
 ghost use Rattle.removal.specs.Removal.{removed, all_removed};
-ghost use Rattle.removal.specs.Alone.{pick, side_after, placed, placed_as, standing, Between, Moved, flags_fit, is_variable, refused_at_once, alone, Tidied, RemovedAlone, part_end, PartIs, RemovedPart};
+ghost use Rattle.removal.specs.Alone.{pick, side_after, placed, placed_as, standing, Between, Moved, flags_fit, is_variable, refused_at_once, alone, Tidied, RemovedAlone, part_end, PartIs, as_shared, RemovedPart};
 
 use rows::{Row, Set};
 use sets::{Joined, Outcome, Refusal};
@@ -228,7 +228,7 @@ pub fn rows_of<'a>(first: &'a [i32], second: &'a [i32], done: Placed) -> &'a [i3
 }
 
 fn part<'a>(first: &'a mut [i32], second: &'a mut [i32], done: Placed) -> &'a mut [i32]
-    ensures { PartIs first.entry second.entry done result }
+    ensures { PartIs (as_shared first.entry) (as_shared second.entry) done (as_shared result) }
 {
     if done.second {
         let end = part_end(second.len(), done.rows);
@@ -247,7 +247,7 @@ pub fn remove<'a>(
     variables: &[u8],
     outcome: &mut u8,
 ) -> &'a mut [i32]
-    ensures { RemovedPart count variables.now first.entry second.entry outcome.new result }
+    ensures { RemovedPart count variables.now (as_shared first.entry) (as_shared second.entry) outcome.new (as_shared result) }
 {
     let done = remove_between(first, second, count, variables);
     let o = done.outcome;

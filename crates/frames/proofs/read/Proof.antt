@@ -29,7 +29,7 @@ decreases-loop input transitions₀ rows₀ buffer₀ p₀ at₀ transitions row
 
 module _ (l : tie.At-loop-at invariant-loop decreases-loop) where
   abbrev input : List ℕ
-  input = l.before.before.before.before.before.before.before.args.input.now
+  input = l.args.input.now
 
   abbrev rest : List ℕ
   rest = drop l.loop-at.at input
@@ -41,11 +41,11 @@ module _ (l : tie.At-loop-at invariant-loop decreases-loop) where
   all = read_short input l.loop-at.invariant.2
 
 returns : tie.Need-returns-then-input-gt65536 invariant-loop decreases-loop
-returns c = c.refused.ensures ∙ sym (ap reading_of (read-long c.before.before.before.args.input.now c.before.if-input-gt65536.true))
+returns c = c.refused.ensures ∙ sym (ap reading_of (read-long c.args.input.now c.before.if-input-gt65536.true))
 
 loop-holds : tie.Need-loop-at-init invariant-loop decreases-loop
 loop-holds c =
-    let i = c.before.before.before.before.before.before.args.input.now in (
+    let i = c.args.input.now in (
       search rules,
       c.before.no_bytes-buffer.ensures,
       omega arith,

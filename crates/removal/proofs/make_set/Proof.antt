@@ -25,18 +25,18 @@ decreases-loop s₀ n c₀ i₀ s c i = n - i
 
 loop-holds : tie.Need-loop-i-init invariant-loop decreases-loop
 loop-holds c =
-    let s = c.before.args.s.now in
-    let r = ready_start (holds-none s c.before.requires.1) in
-    rw c.with-c.ensures (search rules, refl, r, ready_left s _ r, growing_none s, making_start s c.before.args.n)
+    let s = c.args.s.now in
+    let r = ready_start (holds-none s c.requires.1) in
+    rw c.with-c.ensures (search rules, refl, r, ready_left s _ r, growing_none s, making_start s c.args.n)
 
 -- in a turn: where the row is read, and what was put
-settled : (c : tie.After-divided_down invariant-loop decreases-loop) → (let l = c.before.before.before.before.before in c.divided_down.result ≡ divided_down (row_at l.loop-i.s (l.loop-i.i * 17)))
+settled : (c : tie.After-divided_down invariant-loop decreases-loop) → (let l = c.before.before.before.before in c.divided_down.result ≡ divided_down (row_at l.loop-i.s (l.loop-i.i * 17)))
 settled c = rw c.before.read.ensures at c.divided_down.ensures
 
 loop-again : tie.Need-loop-i-preserved invariant-loop decreases-loop
 loop-again c =
     let p = c.before in
-    let t = p.before.before.before.before.before in
+    let t = p.before.before.before.before in
     let l = t.before in
     let b = l.before in
     let s = l.loop-i.s in
@@ -59,7 +59,7 @@ loop-again c =
 returns : tie.Need-returns invariant-loop decreases-loop
 returns c =
     let l = c.before in
-    let z = l.before.before.args in
+    let z = l.args in
     rw (← l.loop-i.invariant.5, put_all-done z.s.now 0 z.n l.loop-i.i (omega arith) (progress l.loop-i.s l.loop-i.c)) l.loop-i.invariant.3
 
 pub make_set_spec : {M : Type 1} → statement M
@@ -68,10 +68,10 @@ make_set_spec =
     (tie.spec invariant-loop decreases-loop
     (λ c κs. search rules)
     loop-holds
-    (λ c. omega (arith, c.before.before.before.before.requires.0))
-    (λ c κs. omega (arith, c.before.before.before.before.requires, c.before.before.before.loop-i.invariant.1))
+    (λ c. omega (arith, c.requires.0))
+    (λ c κs. omega (arith, c.requires, c.loop-i.invariant.1))
     (λ c κs. search rules)
-    (λ c κs. c.before.before.before.before.before.loop-i.invariant.2)
+    (λ c κs. c.loop-i.invariant.2)
     (λ c. search rules)
     (λ c. search rules)
     loop-again

@@ -9,23 +9,23 @@ use Rattle.removal.proofs.Ends.{end_within, at-start}
 use Rattle.removal.proofs.part.Statement.{statement}
 use Rattle.removal.proofs.part.Tie as tie
 
-part-second-end : tie.Need-slice-bounds-second-end
-part-second-end c = let z = c.before.before.args in omega (arith, c.part_end-end.ensures, end_within (length z.second.now) z.done.rows)
+part-second-end : tie.Need-slice_bounds-second-end
+part-second-end c = let z = c.args in omega (arith, c.part_end-end.ensures, end_within (length z.second.now) z.done.rows)
 
 returns : tie.Need-returns-then-done
 returns c =
-    let z = c.before.before.before.args in
+    let z = c.args in
     let h : z.done.second ≡ true = c.before.before.if-done.true in
-    record { numbers = simp (sub-zero, h, c.before.part_end-end.ensures); place = at-start z.second.ptr ∙ simp h }
+    record { numbers = simp (sub-zero, h, c.before.part_end-end.ensures); place = at-start z.second.ref_ptr ∙ simp h }
 
-part-first-end : tie.Need-slice-bounds-first-end
-part-first-end c = let z = c.before.before.args in omega (arith, c.part_end-end-2.ensures, end_within (length z.first.now) z.done.rows)
+part-first-end : tie.Need-slice_bounds-first-end
+part-first-end c = let z = c.args in omega (arith, c.part_end-end-2.ensures, end_within (length z.first.now) z.done.rows)
 
 returns-2 : tie.Need-returns
 returns-2 c =
-    let z = c.before.before.before.args in
+    let z = c.args in
     let h : z.done.second ≡ false = c.before.before.if-done.false in
-    record { numbers = simp (sub-zero, h, c.before.part_end-end-2.ensures); place = at-start z.first.ptr ∙ simp h }
+    record { numbers = simp (sub-zero, h, c.before.part_end-end-2.ensures); place = at-start z.first.ref_ptr ∙ simp h }
 
 pub part_spec : {M : Type 1} → statement M
 part_spec =

@@ -9,6 +9,6 @@ part_end_spec =
     tie.close
     (tie.spec
     (λ c. search rules)
-    (λ c. let z = c.before.before.args in end_fits z.long z.rows c.before.if-rows-le-ROWS.true c.if-end-long.true)
-    (λ c. let z = c.before.before.args in end_short z.long z.rows c.before.if-rows-le-ROWS.true c.if-end-long.false)
-    (λ c. let z = c.before.args in end_many z.long z.rows c.if-rows-le-ROWS.false))
+    (λ c. let z = c.args in end_fits z.long z.rows c.before.if-rows-le-ROWS.true c.if-end-long.true)
+    (λ c. let z = c.args in end_short z.long z.rows c.before.if-rows-le-ROWS.true c.if-end-long.false)
+    (λ c. let z = c.args in end_many z.long z.rows c.if-rows-le-ROWS.false))

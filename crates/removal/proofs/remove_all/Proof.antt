@@ -15,7 +15,7 @@ abbrev decreases-loop : tie.decreases-loop-i
 decreases-loop first₀ second₀ variables done₀ i₀ first second done i = length variables - i
 
 loop-holds : tie.Need-loop-i-init invariant-loop decreases-loop
-loop-holds c = let z = c.before.args in (search rules, turned_none z.variables.now z.first.now z.second.now z.s c.before.requires.0)
+loop-holds c = let z = c.args in (search rules, turned_none z.variables.now z.first.now z.second.now z.s c.requires.0)
 
 remove-next-requires : tie.Need-remove_next-done-requires invariant-loop decreases-loop
 remove-next-requires c κs =
@@ -39,7 +39,7 @@ loop-again c =
     )
 
 returns : tie.Need-returns invariant-loop decreases-loop
-returns c = let l = c.before in rw (take_all l.loop-i.i l.before.before.args.variables.now c.loop-i-test.false) at l.loop-i.invariant.1
+returns c = let l = c.before in rw (take_all l.loop-i.i l.args.variables.now c.loop-i-test.false) at l.loop-i.invariant.1
 
 pub remove_all_spec : {M : Type 1} → statement M
 remove_all_spec =

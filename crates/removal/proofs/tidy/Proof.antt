@@ -4,10 +4,10 @@ use Rattle.removal.proofs.tidy.Statement.{statement}
 use Rattle.removal.proofs.tidy.Tie as tie
 
 clear-from-requires : tie.Need-clear_from-requires
-clear-from-requires c κs = let t = c.before.before.before.before in rw t.if-s.true at t.before.before.requires
+clear-from-requires c κs = let t = c.before.before.before.before in rw t.if-s.true at t.requires
 
 clear-from-requires-2 : tie.Need-clear_from-requires-else-s
-clear-from-requires-2 c κs = let t = c.before in rw t.if-s.false at t.before.before.requires
+clear-from-requires-2 c κs = let t = c.before in rw t.if-s.false at t.requires
 
 returns : tie.Need-returns-in-Refused
 returns c =

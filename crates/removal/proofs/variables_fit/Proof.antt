@@ -21,24 +21,24 @@ returns : tie.Need-returns-then-v-lt1 invariant-loop decreases-loop
 returns c =
     let t = c.before.before in
     let l = t.before in
-    every_stops is_variable l.before.args.variables.now l.loop-i.i 0 t.loop-i-test.true (variable_below _ c.if-v-lt1.true) ∙ l.loop-i.invariant.1
+    every_stops is_variable l.args.variables.now l.loop-i.i 0 t.loop-i-test.true (variable_below _ c.if-v-lt1.true) ∙ l.loop-i.invariant.1
 
 returns-2 : tie.Need-returns-then-v-gt15 invariant-loop decreases-loop
 returns-2 c =
     let t = c.before.before.before in
     let l = t.before in
-    every_stops is_variable l.before.args.variables.now l.loop-i.i 0 t.loop-i-test.true (variable_above _ c.if-v-gt15.true) ∙ l.loop-i.invariant.1
+    every_stops is_variable l.args.variables.now l.loop-i.i 0 t.loop-i-test.true (variable_above _ c.if-v-gt15.true) ∙ l.loop-i.invariant.1
 
 loop-again : tie.Need-loop-i-preserved invariant-loop decreases-loop
 loop-again c =
     let t = c.before.before.before in
     let l = t.before in (
       omega arith,
-      every_turn is_variable l.before.args.variables.now l.loop-i.i 0 t.loop-i-test.true (variable_is _ c.before.if-v-lt1.false c.if-v-gt15.false) ∙ l.loop-i.invariant.1,
+      every_turn is_variable l.args.variables.now l.loop-i.i 0 t.loop-i-test.true (variable_is _ c.before.if-v-lt1.false c.if-v-gt15.false) ∙ l.loop-i.invariant.1,
     )
 
 returns-3 : tie.Need-returns invariant-loop decreases-loop
-returns-3 c = let l = c.before in every-done is_variable l.before.args.variables.now l.loop-i.i 0 c.loop-i-test.false ∙ l.loop-i.invariant.1
+returns-3 c = let l = c.before in every-done is_variable l.args.variables.now l.loop-i.i 0 c.loop-i-test.false ∙ l.loop-i.invariant.1
 
 pub variables_fit_spec : {M : Type 1} → statement M
 variables_fit_spec =

@@ -7,10 +7,10 @@ use Rattle.frames.proofs.answers.counted.Statement.{statement}
 use Rattle.frames.proofs.answers.counted.Tie as tie
 
 returns : tie.Need-returns-then-z-eq0
-returns c = rw (bits-zero w32 c.before.args.z c.before.ranges.z.sfits c.if-z-eq0.true) (refl, omega arith)
+returns c = rw (bits-zero w32 c.args.z c.ranges.z.sfits c.if-z-eq0.true) (refl, omega arith)
 
 returns-2 : tie.Need-returns-else-z-eq0
-returns-2 c = rw (zero_bits w32 c.before.args.z c.if-z-eq0.false) (refl, omega arith)
+returns-2 c = rw (zero_bits w32 c.args.z c.if-z-eq0.false) (refl, omega arith)
 
 pub counted_spec : {M : Type 1} → statement M
 counted_spec = tie.close (tie.spec returns returns-2)

@@ -14,7 +14,7 @@ unfolding digits_of big_endian
 put-two-requires-2 c κs =
     let t = c.before.before.before.before in
     let w = t.put_two-owner.ensures in
-    omega (arith, w.place, w.long, t.before.before.before.requires)
+    omega (arith, w.place, w.long, t.requires)
 
 put-byte-requires : tie.Need-put_byte-requires
 unfolding digits_of big_endian
@@ -23,7 +23,7 @@ put-byte-requires c κs =
     let t = u.before.before.before.before.before in
     let w = t.put_two-owner.ensures in
     let v = u.put_two-flag.ensures in
-    omega (arith, w.place, w.long, v.place, v.long, t.before.before.before.requires)
+    omega (arith, w.place, w.long, v.place, v.long, t.requires)
 
 returns : tie.Need-returns
 unfolding digits_of big_endian

@@ -13,7 +13,7 @@ use Rattle.frames.proofs.answers.put_term.Statement.{statement}
 use Rattle.frames.proofs.answers.put_term.Tie as tie
 
 -- a term takes ten digits
-room : (c : tie.Else-z-eq0) → c.before.before.args.at + 10 ≤ length c.before.before.args.to.now
+room : (c : tie.Else-z-eq0) → c.args.at + 10 ≤ length c.args.to.now
 unfolding digits_of big_endian
 room c = let s = c.before.before in rw (zero_bits w32 s.args.z c.if-z-eq0.false) at s.requires.1
 

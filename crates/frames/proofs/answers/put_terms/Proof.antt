@@ -26,12 +26,12 @@ long c = search rules
 -- the entry that a turn looks at, its digits, and those that come after
 module _ (l : tie.At-loop-i invariant-loop decreases-loop) where
   abbrev e : List ℤ
-  e = l.before.before.args.e
+  e = l.args.e
 
   abbrev z : ℤ
   z = get_or e l.loop-i.i (pos 0)
 
-  now-digits : l.loop-i.i < 16 → Going (digits_of (terms_of 0 e)) l.before.before.args.at l.before.before.args.to.now
+  now-digits : l.loop-i.i < 16 → Going (digits_of (terms_of 0 e)) l.args.at l.args.to.now
       (digits_of (term_bytes l.loop-i.i z) ++ digits_of (terms_of (l.loop-i.i + 1) (drop (l.loop-i.i + 1) e))) l.loop-i.next l.loop-i.to
   now-digits h = rw (terms_digits e l.loop-i.i (omega (arith, long l.before.before))) at l.loop-i.invariant.2
 
@@ -41,7 +41,7 @@ put-term-requires c κs =
     let h : l.loop-i.i < 16 = omega arith in
     let g = now-digits l h in
     rw (back w32 (z l) c.put_term-arg-in-loop-i-1.given)
-    (h, omega (arith, g.place, g.long, l.before.before.requires, length-append (digits_of (term_bytes l.loop-i.i (z l))) (digits_of (terms_of (l.loop-i.i + 1) (drop (l.loop-i.i + 1) (e l))))))
+    (h, omega (arith, g.place, g.long, l.requires, length-append (digits_of (term_bytes l.loop-i.i (z l))) (digits_of (terms_of (l.loop-i.i + 1) (drop (l.loop-i.i + 1) (e l))))))
 
 loop-holds : tie.Need-loop-i-init invariant-loop decreases-loop
 loop-holds c = (search rules, refl, going_first _ _ _)

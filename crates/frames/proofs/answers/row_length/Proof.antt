@@ -6,7 +6,7 @@ use Rattle.frames.proofs.answers.row_length.Statement.{statement}
 use Rattle.frames.proofs.answers.row_length.Tie as tie
 
 returns : tie.Need-returns
-returns c = let t = c.term_number.ensures in (omega (arith, line-length c.before.before.args.r), omega arith)
+returns c = let t = c.term_number.ensures in (omega (arith, line-length c.args.r), omega arith)
 
 pub row_length_spec : {M : Type 1} → statement M
 row_length_spec = tie.close (tie.spec

@@ -30,7 +30,7 @@ loop-holds c = (search rules, search rules, zero-plus _)
 loop-again : tie.Need-loop-i-preserved invariant-loop decreases-loop
 loop-again c =
     let l = c.before.before.before in
-    let e = l.before.args.e in
+    let e = l.args.e in
     let z = get_or e l.loop-i.i (pos 0) in
     let is = rw (back w32 z c.before.counted-arg-1.given) at c.counted-n.ensures.0 in
     (search rules, omega (arith, c.counted-n.ensures.1), rw is (number_turn e l.loop-i.i l.loop-i.n (omega (arith, long l.before))) ∙ l.loop-i.invariant.2)
@@ -38,7 +38,7 @@ loop-again c =
 returns : tie.Need-returns invariant-loop decreases-loop
 returns c =
     let l = c.before in
-    (number-done l.before.args.e l.loop-i.i l.loop-i.n (omega (arith, long l.before)) ∙ l.loop-i.invariant.2, omega arith)
+    (number-done l.args.e l.loop-i.i l.loop-i.n (omega (arith, long l.before)) ∙ l.loop-i.invariant.2, omega arith)
 
 pub term_number_spec : {M : Type 1} → statement M
 term_number_spec =

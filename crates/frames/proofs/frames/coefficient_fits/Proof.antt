@@ -11,9 +11,9 @@ returns : tie.Need-returns
 returns c =
     let m = c.before in
     let w = m.before in
-    let z = w.before.args.z in
-    let e = back w64 w.wide.result w.wide.type_inv ∙ w.wide.ensures ∙ back w32 z w.before.ranges.z.sfits in
-    rw (zero-read w32 z w.before.ranges.z.sfits, m.magnitude.ensures, e) at c.both.ensures
+    let z = w.args.z in
+    let e = back w64 w.wide.result w.wide.type_inv ∙ w.wide.ensures ∙ back w32 z w.ranges.z.sfits in
+    rw (zero-read w32 z w.ranges.z.sfits, m.magnitude.ensures, e) at c.both.ensures
 
 pub coefficient_fits_spec : {M : Type 1} → statement M
 coefficient_fits_spec = tie.close (tie.spec

@@ -25,7 +25,7 @@ abbrev decreases-loop : tie.decreases-loop-i
 decreases-loop b i₀ i-end i = i-end - i
 
 abbrev b : tie.At-loop-i invariant-loop decreases-loop → List ℕ
-b l = l.before.before.before.args.b.now
+b l = l.args.b.now
 
 read : (c : tie.After-coefficient_fits invariant-loop decreases-loop) → let l = c.before.before.before in c.coefficient_fits.result ≡ test (b l) l.loop-i.i
 read c = let t = c.before.term_coefficient in rw (back w32 t.result t.type_inv, t.ensures) at c.coefficient_fits.ensures

@@ -25,10 +25,10 @@ abbrev decreases-loop : tie.decreases-loop-i
 decreases-loop b h kind i₀ i-end i = i-end - i
 
 abbrev b : tie.At-loop-i invariant-loop decreases-loop → List ℕ
-b l = l.before.before.before.before.args.b.now
+b l = l.args.b.now
 
 abbrev h : tie.At-loop-i invariant-loop decreases-loop → Header
-h l = l.before.before.before.before.args.h
+h l = l.args.h
 
 read : (c : tie.After-entry_declared invariant-loop decreases-loop) → let l = c.before.before.before in c.entry_declared.result ≡ test (h l) (b l) l.loop-i.i
 read c = rw c.before.term_entry.ensures.0 at c.entry_declared.ensures

@@ -24,12 +24,12 @@ decreases-loop b to₀ i₀ to i = i
 entry-within : (c : tie.After-term_entry-e invariant-loop decreases-loop) → c.term_entry-e.result < 16
 entry-within c =
     let l = c.before.before in
-    omega (arith, l.before.before.before.requires.1 (l.loop-i.i - 1) (omega arith))
+    omega (arith, l.requires.1 (l.loop-i.i - 1) (omega arith))
 
 loop-holds : tie.Need-loop-i-init invariant-loop decreases-loop
 unfolding entries_of
 loop-holds c =
-    let n = term_count c.before.before.args.b.now in
+    let n = term_count c.args.b.now in
     (search rules, refl, rw (c.term_count-i.ensures, sub_self n))
 
 loop-again : tie.Need-loop-i-preserved invariant-loop decreases-loop

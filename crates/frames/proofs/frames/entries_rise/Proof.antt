@@ -25,7 +25,7 @@ abbrev decreases-loop : tie.decreases-loop-i
 decreases-loop b n i₀ i-end i = i-end - i
 
 abbrev b : tie.At-loop-i invariant-loop decreases-loop → List ℕ
-b l = l.before.before.before.args.b.now
+b l = l.args.b.now
 
 loop-holds : tie.Need-loop-i-init invariant-loop decreases-loop
 loop-holds c = (search rules, refl)

@@ -30,7 +30,7 @@ returns : tie.Need-returns invariant-loop decreases-loop
 returns c =
     let l = c.before in
     let e : l.loop-i.i ≡ 8 = omega arith in
-    rw (l.loop-i.invariant.1, e, front-padded 8 (drop 1 (reference_of l.before.before.args.h l.before.before.args.b.now)) (replicate 8 (pos 0)) refl)
+    rw (l.loop-i.invariant.1, e, front-padded 8 (drop 1 (reference_of l.args.h l.args.b.now)) (replicate 8 (pos 0)) refl)
 
 pub numerators_spec : {M : Type 1} → statement M
 numerators_spec =

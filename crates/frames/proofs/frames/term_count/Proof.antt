@@ -6,7 +6,7 @@ use Rattle.frames.proofs.frames.term_count.Statement.{statement}
 use Rattle.frames.proofs.frames.term_count.Tie as tie
 
 returns-2 : tie.Need-returns-else-b-gt3
-returns-2 c = sym (get_or-eq_default c.before.args.b.now 0 {n = 3} c.if-b-gt3.false)
+returns-2 c = sym (get_or-eq_default c.args.b.now 0 {n = 3} c.if-b-gt3.false)
 
 pub term_count_spec : {M : Type 1} → statement M
 term_count_spec = tie.close (tie.spec

@@ -7,10 +7,10 @@ use Rattle.frames.proofs.frames.term_entry.Statement.{statement}
 use Rattle.frames.proofs.frames.term_entry.Tie as tie
 
 cast-result : tie.Need-overflow_cast-result
-cast-result c = omega (arith, c.shared_slice_known-1.given (4 + c.before.args.i * 5))
+cast-result c = omega (arith, c.shared_slice_known-1.given (4 + c.args.i * 5))
 
 returns : tie.Need-returns
-returns c = (refl, omega (arith, c.shared_slice_known-1.given (4 + c.before.args.i * 5)))
+returns c = (refl, omega (arith, c.shared_slice_known-1.given (4 + c.args.i * 5)))
 
 pub term_entry_spec : {M : Type 1} → statement M
 term_entry_spec =

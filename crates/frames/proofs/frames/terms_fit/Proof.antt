@@ -8,13 +8,13 @@ use Rattle.frames.proofs.frames.terms_fit.Tie as tie
 
 returns : tie.Need-returns-then-n-lt1
 unfolding terms_fit
-returns c = let b = c.before.before.before.args.b.now in rw (lt-leb 1 (term_count b) (omega (arith, c.before.term_count-n.ensures)))
+returns c = let b = c.args.b.now in rw (lt-leb 1 (term_count b) (omega (arith, c.before.term_count-n.ensures)))
 
 returns-2 : tie.Need-returns-then-n-gt15
 unfolding terms_fit
 returns-2 c =
     let t = c.before.before in
-    let b = t.before.before.args.b.now in
+    let b = t.args.b.now in
     rw (le-leb 1 (term_count b) (omega (arith, t.term_count-n.ensures)), lt-leb (term_count b) 15 (omega (arith, t.term_count-n.ensures)))
 
 returns-3 : tie.Need-returns
@@ -22,7 +22,7 @@ unfolding terms_fit
 returns-3 c =
     let f = c.before.before in
     let t = f.before.before.before in
-    let b = t.before.before.args.b.now in
+    let b = t.args.b.now in
     rw (le-leb 1 (term_count b) (omega (arith, t.term_count-n.ensures)), le-leb (term_count b) 15 (omega (arith, t.term_count-n.ensures)))
     (rw (f.coefficients_fit.ensures, c.before.entries_rise.ensures) at c.both.ensures)
 

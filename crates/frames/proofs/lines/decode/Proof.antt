@@ -22,7 +22,7 @@ abbrev decreases-loop : tie.decreases-loop-at
 decreases-loop input from to₀ at₀ n₀ to at n = length input - at
 
 abbrev input : tie.At-loop-at invariant-loop decreases-loop → List ℕ
-input l = l.before.before.before.args.input.now
+input l = l.args.input.now
 
 loop-holds : tie.Need-loop-at-init invariant-loop decreases-loop
 loop-holds c = (search rules, search rules, search rules, going_none _ _)
@@ -35,7 +35,7 @@ returns c =
     let two = two_left (input l) l.loop-at.at e in
     let foreign = is-foreign 256 (pair-below (get_or (input l) l.loop-at.at 0) (get_or (input l) (l.loop-at.at + 1) 0)) (omega (arith, t.before.pair-b.ensures)) in (
       l.loop-at.invariant.2,
-      going_ends (drop l.before.before.before.args.from (input l)) l.loop-at.to l.loop-at.n (drop l.loop-at.at (input l)) c.ended.result (eqb (get_or (input l) l.loop-at.at 0) 10) l.loop-at.invariant.3
+      going_ends (drop l.args.from (input l)) l.loop-at.to l.loop-at.n (drop l.loop-at.at (input l)) c.ended.result (eqb (get_or (input l) l.loop-at.at 0) 10) l.loop-at.invariant.3
           (rw two (pair_stops (get_or (input l) l.loop-at.at 0) (get_or (input l) (l.loop-at.at + 1) 0) (drop (l.loop-at.at + 2) (input l)) foreign)) c.ended.ensures.0 c.ended.ensures.1,
     )
 
@@ -48,13 +48,13 @@ loop-again c =
     let two = two_left (input l) l.loop-at.at e in
     let a = get_or (input l) l.loop-at.at 0 in
     let b = get_or (input l) (l.loop-at.at + 1) 0 in
-    let g : Going (drop l.before.before.before.args.from (input l)) (a ∷ b ∷ drop (l.loop-at.at + 2) (input l)) l.loop-at.to l.loop-at.n = rw two at l.loop-at.invariant.3 in
+    let g : Going (drop l.args.from (input l)) (a ∷ b ∷ drop (l.loop-at.at + 2) (input l)) l.loop-at.to l.loop-at.n = rw two at l.loop-at.invariant.3 in
     let p = t.before.pair-b.ensures in
     let v : pair a b ≡ found t.before.pair-b.result = rw p (is-value 256 (pair-below a b) (omega arith)) in (
       omega arith,
       omega arith,
       ap length k.keep.ensures ∙ simp length-set l.loop-at.invariant.2,
-      rw k.keep.ensures (going_more (drop l.before.before.before.args.from (input l)) l.loop-at.to l.loop-at.n a b t.before.pair-b.result (drop (l.loop-at.at + 2) (input l)) l.loop-at.invariant.2 v g),
+      rw k.keep.ensures (going_more (drop l.args.from (input l)) l.loop-at.to l.loop-at.n a b t.before.pair-b.result (drop (l.loop-at.at + 2) (input l)) l.loop-at.invariant.2 v g),
     )
 
 returns-2 : tie.Need-returns invariant-loop decreases-loop
@@ -63,7 +63,7 @@ returns-2 c =
     let rest = drop l.loop-at.at (input l) in
     let e : get_or rest 0 0 ≡ get_or (input l) l.loop-at.at 0 = get_or-drop l.loop-at.at (input l) 0 0 ∙ ap (λ (k : ℕ). get_or (input l) k 0) (add-zero l.loop-at.at) in (
       l.loop-at.invariant.2,
-      going_ends (drop l.before.before.before.args.from (input l)) l.loop-at.to l.loop-at.n rest c.ended-2.result (eqb (get_or (input l) l.loop-at.at 0) 10) l.loop-at.invariant.3
+      going_ends (drop l.args.from (input l)) l.loop-at.to l.loop-at.n rest c.ended-2.result (eqb (get_or (input l) l.loop-at.at 0) 10) l.loop-at.invariant.3
           (rw (← e) (ends-short rest (rw length-drop (omega arith)))) c.ended-2.ensures.0 c.ended-2.ensures.1,
     )
 

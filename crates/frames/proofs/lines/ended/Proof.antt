@@ -6,7 +6,7 @@ use Rattle.frames.proofs.lines.ended.Statement.{statement}
 use Rattle.frames.proofs.lines.ended.Tie as tie
 
 returns-2 : tie.Need-returns
-returns-2 c = rw (get_or-eq_default c.before.args.input.now 0 {n = c.before.args.at} c.if-at-input.false) (refl, refl)
+returns-2 c = rw (get_or-eq_default c.args.input.now 0 {n = c.args.at} c.if-at-input.false) (refl, refl)
 
 pub ended_spec : {M : Type 1} → statement M
 ended_spec = tie.close (tie.spec

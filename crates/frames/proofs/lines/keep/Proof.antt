@@ -7,7 +7,7 @@ use Rattle.frames.proofs.lines.keep.Statement.{statement}
 use Rattle.frames.proofs.lines.keep.Tie as tie
 
 returns-2 : tie.Need-returns-else-n-to
-returns-2 c = let a = c.before.args in sym (set_past a.to.now a.n a.b (omega arith))
+returns-2 c = let a = c.args in sym (set_past a.to.now a.n a.b (omega arith))
 
 pub keep_spec : {M : Type 1} → statement M
 keep_spec = tie.close (tie.spec

@@ -13,7 +13,7 @@ unfolding digits_of big_endian
 put-two-requires-2 c κs =
     let t = c.before.before.before in
     let w = t.put_two-second.ensures in
-    omega (arith, w.place, w.long, t.before.before.before.requires)
+    omega (arith, w.place, w.long, t.requires)
 
 put-four-requires : tie.Need-put_four-requires
 unfolding digits_of big_endian
@@ -22,7 +22,7 @@ put-four-requires c κs =
     let t = u.before.before.before.before in
     let w = t.put_two-second.ensures in
     let v = u.put_two-third.ensures in
-    omega (arith, w.place, w.long, v.place, v.long, t.before.before.before.requires)
+    omega (arith, w.place, w.long, v.place, v.long, t.requires)
 
 returns : tie.Need-returns
 unfolding digits_of big_endian

@@ -24,10 +24,10 @@ decreases-loop to₀ at region n next₀ i₀ to next i = n - i
 -- the line that a turn writes, and those that come after
 module _ (l : tie.At-loop-i invariant-loop decreases-loop) where
   abbrev s : List ℤ
-  s = l.before.before.args.region.now
+  s = l.args.region.now
 
   abbrev n : ℕ
-  n = l.before.before.args.n
+  n = l.args.n
 
   abbrev line : List ℕ
   line = line_of (row_bytes (row_at s (l.loop-i.i * row_numbers)))
@@ -35,18 +35,18 @@ module _ (l : tie.At-loop-i invariant-loop decreases-loop) where
   abbrev more : List ℕ
   more = row_lines (from_row s n (l.loop-i.i + 1))
 
-  now-line : l.loop-i.i < n → Going (row_lines (rows_at s 0 n)) l.before.before.args.at l.before.before.args.to.now (line ++ more) l.loop-i.next l.loop-i.to
+  now-line : l.loop-i.i < n → Going (row_lines (rows_at s 0 n)) l.args.at l.args.to.now (line ++ more) l.loop-i.next l.loop-i.to
   now-line h = rw (lines_turn s n l.loop-i.i h) at l.loop-i.invariant.2
 
 put-row-requires : tie.Need-put_row-next-requires invariant-loop decreases-loop
 put-row-requires c κs =
     let l = c.before.before.before in
     let g = now-line l (omega arith) in
-    rw c.read.ensures (omega (arith, g.place, g.long, l.before.before.requires.2, length-append (line l) (more l)))
+    rw c.read.ensures (omega (arith, g.place, g.long, l.requires.2, length-append (line l) (more l)))
 
 loop-holds : tie.Need-loop-i-init invariant-loop decreases-loop
 loop-holds c =
-    let a = c.before.args in
+    let a = c.args in
     (search rules, refl, rw (lines-all a.region.now a.n) (going_first _ a.at a.to.now))
 
 loop-again : tie.Need-loop-i-preserved invariant-loop decreases-loop
@@ -61,7 +61,7 @@ loop-again c =
 returns : tie.Need-returns invariant-loop decreases-loop
 returns c =
     let l = c.before in
-    let a = l.before.before.args in
+    let a = l.args in
     going_end _ a.at a.to.now l.loop-i.next l.loop-i.to (rw (lines-done a.region.now a.n l.loop-i.i c.loop-i-test.false) at l.loop-i.invariant.2)
 
 pub put_region_spec : {M : Type 1} → statement M

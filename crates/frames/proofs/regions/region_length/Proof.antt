@@ -27,8 +27,8 @@ loop-holds c = (search rules, search rules, zero-plus _ ∙ ap length (lines-all
 loop-again : tie.Need-loop-i-preserved invariant-loop decreases-loop
 loop-again c =
     let l = c.before.before.before in
-    let s = l.before.args.region.now in
-    let n = l.before.args.n in
+    let s = l.args.region.now in
+    let n = l.args.n in
     let h : l.loop-i.i < n = omega arith in
     let k = rw c.before.read.ensures at c.row_length-total.ensures.0 in
     let e = lines_turn s n l.loop-i.i h in (
@@ -40,8 +40,8 @@ loop-again c =
 returns : tie.Need-returns invariant-loop decreases-loop
 returns c =
     let l = c.before in
-    let s = l.before.args.region.now in
-    (omega (arith, l.loop-i.invariant.2, ap length (lines-done s l.before.args.n l.loop-i.i c.loop-i-test.false)), omega arith)
+    let s = l.args.region.now in
+    (omega (arith, l.loop-i.invariant.2, ap length (lines-done s l.args.n l.loop-i.i c.loop-i-test.false)), omega arith)
 
 pub region_length_spec : {M : Type 1} → statement M
 region_length_spec =

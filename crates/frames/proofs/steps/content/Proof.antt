@@ -7,7 +7,7 @@ use Rattle.frames.proofs.steps.content.Tie as tie
 
 header-frame-requires : tie.Need-header_frame-requires
 unfolding due_length
-header-frame-requires c κs = rw c.if-kind-eq1.true at c.before.before.requires.3
+header-frame-requires c κs = rw c.if-kind-eq1.true at c.requires.3
 
 returns : tie.Need-returns-then-kind-eq1
 unfolding content
@@ -40,7 +40,7 @@ returns-4 : tie.Need-returns
 unfolding content
 returns-4 c s e =
     let d = c.before in
-    let x = d.before.before.before.before.args.kind in
+    let x = d.args.kind in
     let k : x ≡ 3 = omega arith in
     rw k (c.row_frame.ensures s e)
 

@@ -17,11 +17,11 @@ use Rattle.frames.proofs.steps.frame.Tie as tie
 -- the buffer has a byte at least, and no more than its length
 n-is : (c : tie.After-held-n) → (1 ≤ c.held-n.result) × (c.held-n.result ≤ frame_limit)
 n-is c =
-    let count = c.before.before.before.args.count in
+    let count = c.args.count in
     rw c.held-n.ensures (held-some count (omega arith), held-few count)
 
 -- a byte's worth of terms
-omega-small : (c : tie.After-placed-o) → term_count (take (c.before.before.before.before.held-n.result - 1) (drop 1 c.before.before.before.before.before.before.before.args.buffer.now)) < 256
+omega-small : (c : tie.After-placed-o) → term_count (take (c.before.before.before.before.held-n.result - 1) (drop 1 c.args.buffer.now)) < 256
 omega-small c = omega (arith, c.before.term_count.ensures)
 
 -- what the places further on start from

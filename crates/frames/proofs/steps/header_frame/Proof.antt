@@ -18,7 +18,7 @@ unfolding header_frame
 returns-2 c s =
     let f = c.before.before in
     rw (sym (rw f.before.header_of-h.ensures at f.fits2.ensures) ∙ not-false f.fits2.result c.before.if-not-fits.false-raw)
-    (met-header _ s c.blank-f.ensures.1 (header_of f.before.before.before.args.b.now) c.blank-f.ensures.0 f.before.header_of-h.ensures)
+    (met-header _ s c.blank-f.ensures.1 (header_of f.args.b.now) c.blank-f.ensures.0 f.before.header_of-h.ensures)
 
 pub header_frame_spec : {M : Type 1} → statement M
 header_frame_spec =

@@ -14,7 +14,7 @@ use Rattle.frames.proofs.steps.reference_frame.Statement.{statement}
 use Rattle.frames.proofs.steps.reference_frame.Tie as tie
 
 -- the test, of the list that the frame gives
-read : (c : tie.After-fits2) → c.fits2.result ≡ reference_fits (reference_of c.before.before.before.args.h c.before.before.before.args.b.now)
+read : (c : tie.After-fits2) → c.fits2.result ≡ reference_fits (reference_of c.args.h c.args.b.now)
 read c =
     let s = c.before.before.before in
     let h = s.args.h in
@@ -32,7 +32,7 @@ returns-2 : tie.Need-returns
 unfolding reference_frame
 returns-2 c s e =
     let f = c.before.before in
-    let b = f.before.before.before.args.b.now in
+    let b = f.args.b.now in
     let t : reference_fits (reference_of s.header b) ≡ true = rw e (sym (read f) ∙ not-false f.fits2.result c.before.if-not-fits.false-raw) in
     rw t (met-reference _ s c.blank-f.ensures.1 (reference_of s.header b) c.blank-f.ensures.0 (rw e f.before.reference_of-reference.ensures))
 

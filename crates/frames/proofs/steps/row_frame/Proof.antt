@@ -8,7 +8,7 @@ use Rattle.frames.proofs.Taking.{met-row, entries_within}
 use Rattle.frames.proofs.steps.row_frame.Statement.{statement}
 use Rattle.frames.proofs.steps.row_frame.Tie as tie
 
-declared : (c : tie.Else-not-row_declared) → row_declared c.before.before.before.args.h c.before.before.before.args.b.now ≡ true
+declared : (c : tie.Else-not-row_declared) → row_declared c.args.h c.args.b.now ≡ true
 declared c = sym c.before.row_declared.ensures ∙ not-false c.before.row_declared.result c.if-not-row_declared.false-raw
 
 returns : tie.Need-returns-then-not-row_declared
@@ -34,7 +34,7 @@ unfolding row_frame
 returns-3 c s e =
     let r = c.before in
     let t = r.before.before in
-    let b = t.before.before.before.before.args.b.now in
+    let b = t.args.b.now in
     let d : row_declared s.header b ≡ true = rw e (declared t.before) in
     rw (d, sym t.terms_fit.ensures ∙ not-false t.terms_fit.result r.before.if-not-terms_fit.false-raw) (met-row _ s c.blank-f.ensures.1 (row_of b) c.blank-f.ensures.0 r.row_of-row.ensures)
 

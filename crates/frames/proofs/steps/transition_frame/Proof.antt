@@ -19,7 +19,7 @@ returns-2 : tie.Need-returns
 unfolding transition_frame
 returns-2 c s e =
     let d = c.before.before in
-    let b = d.before.before.before.args.b.now in
+    let b = d.args.b.now in
     let t : transition_declared s.header (transition_of b) ≡ true = rw e (sym (rw d.before.transition_of-t.ensures at d.transition_declared.ensures) ∙ not-false d.transition_declared.result c.before.if-not-transition_declared.false-raw) in
     rw t (met_transition _ s c.blank-f.ensures.1 (transition_of b) c.blank-f.ensures.0 d.before.transition_of-t.ensures)
 

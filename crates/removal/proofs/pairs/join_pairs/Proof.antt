@@ -27,7 +27,7 @@ abbrev decreases-loop : tie.decreases-loop-i
 decreases-loop from v lowers l uppers u to₀ d₀ i₀ to d i = u - i
 
 -- in a turn: the row of the next number
-next-upper : (c : tie.In-loop-i invariant-loop decreases-loop) → (let l = c.before in let z = l.before.before.before.args in let k = get_or z.uppers.now l.loop-i.i 0 in SmallAt z.from.now (k * 17) × IsPos (entry z.v (row_of z.from.now k)))
+next-upper : (c : tie.In-loop-i invariant-loop decreases-loop) → (let l = c.before in let z = l.args in let k = get_or z.uppers.now l.loop-i.i 0 in SmallAt z.from.now (k * 17) × IsPos (entry z.v (row_of z.from.now k)))
 next-upper c =
     let l = c.before in
     let s = l.before.before.before in
@@ -69,7 +69,7 @@ join_pairs_spec =
     tie.close
     (tie.spec invariant-loop decreases-loop
     (λ c. let s = c.before.before in (omega arith, refl, s.requires.0, ready_left s.args.to.now s.args.c s.requires.0, refl))
-    (λ c. omega (arith, c.before.before.before.before.before.requires.4))
+    (λ c. omega (arith, c.requires.4))
     (λ c. omega (arith, (next-upper c.before).0.room))
     (λ c. omega (arith, (next-upper c.before).0.room))
     (λ c κs.

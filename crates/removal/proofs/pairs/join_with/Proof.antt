@@ -28,7 +28,7 @@ abbrev decreases-loop : tie.decreases-loop-j
 decreases-loop from p v lowers l to₀ rows₀ outcome₀ j₀ to rows outcome j = l - j
 
 -- in a turn: the row of the next number
-next_small : (c : tie.In-loop-j invariant-loop decreases-loop) → (let l = c.before in let z = l.before.before.args in SmallAt z.from.now (get_or z.lowers.now l.loop-j.j 0 * 17))
+next_small : (c : tie.In-loop-j invariant-loop decreases-loop) → (let l = c.before in let z = l.args in SmallAt z.from.now (get_or z.lowers.now l.loop-j.j 0 * 17))
 next_small c =
     let l = c.before in
     let s = l.before.before in
@@ -70,7 +70,7 @@ join_with_spec =
     tie.close
     (tie.spec invariant-loop decreases-loop
     (λ c. let s = c.before in (omega arith, refl, s.requires.0, ready_left s.args.to.now s.args.c s.requires.0, refl))
-    (λ c. omega (arith, c.before.before.before.before.requires.4))
+    (λ c. omega (arith, c.requires.4))
     (λ c. omega (arith, (next_small c.before).room))
     (λ c. omega (arith, (next_small c.before).room))
     (λ c κs. let s = c.before.before.before.before.before in (c.before.before.before.loop-j.invariant.2, s.requires.1, next_small c.before.before, s.requires.3, s.requires.2))

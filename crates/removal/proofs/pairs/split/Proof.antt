@@ -12,6 +12,7 @@ use Rattle.removal.specs.Removal.{entry, untouched}
 use Rattle.removal.specs.Pairs.{row_of, numbers_where}
 use Rattle.removal.proofs.Places.{below-read, zero-read, other_read, zero-only, below-only, above-left, number_listed, number_passed, untouched-none, untouched-kept, untouched-passed}
 use Rattle.removal.proofs.pairs.split.Statement.{statement}
+use Rattle.removal.proofs.pairs.split.Lts.{then-e-eq0, else-e-eq0+then-e-lt0, else-e-eq0+else-e-lt0}
 use Rattle.removal.proofs.pairs.split.Tie as tie
 
 abbrev invariant-loop : tie.invariant-loop-i
@@ -25,7 +26,7 @@ decreases-loop from n v to₀ lowers₀ uppers₀ k₀ l₀ u₀ i₀ to lowers 
 
 loop-holds : tie.Need-loop-i-init invariant-loop decreases-loop
 unfolding numbers_where
-loop-holds c = (omega arith, omega arith, omega arith, omega arith, refl, refl, refl, rw untouched-none refl, rw untouched-none (sym (with_rows-none c.before.before.args.to.now)), refl, refl)
+loop-holds c = (omega arith, omega arith, omega arith, omega arith, refl, refl, refl, rw untouched-none refl, rw untouched-none (sym (with_rows-none c.args.to.now)), refl, refl)
 
 loop-again : tie.Need-loop-i-preserved invariant-loop decreases-loop
 loop-again c =
@@ -42,17 +43,16 @@ loop-again c =
     let ups = number_passed isAbove v m i o.uppers o.u o.invariant.10 in
     let rest = untouched-passed v m i o.k o.to z.to.now o.invariant.7 o.invariant.8 in
     let other = other_read v m (i * 17) s.requires.1 t.e-1.given in
-    ⊎_elim
-    (λ w.
-    let zero = zero-read v m (i * 17) s.requires.1 t.e-1.given w.0.taken in
+    elim c.if-e-eq0.branch [
+    then-e-eq0 w ↦
+    let zero = zero-read v m (i * 17) s.requires.1 t.e-1.given w.if-e-eq0.true in
     let only = zero-only e zero in
-    let d = untouched-kept v m i o.k o.to z.to.now o.invariant.7 o.invariant.8 (omega (arith, s.requires.0.stands.room)) zero _ _ w.1.ensures w.3.ensures in
-    rw (w.5, w.6, w.7, w.8, w.9, w.10) (omega arith, omega arith, omega arith, omega arith, w.4.given ∙ o.invariant.4, o.invariant.5, o.invariant.6, d.0, d.1, lows only.0, ups only.1))
-    (⊎_elim
-    (λ w.
-    let low = below-read v m (i * 17) s.requires.1 t.e-1.given w.1.taken in
-    let d = rest (other w.0.left) in
-    rw (w.2, w.3, w.4, w.5, w.6, w.7) (
+    let d = untouched-kept v m i o.k o.to z.to.now o.invariant.7 o.invariant.8 (omega (arith, s.requires.0.stands.room)) zero _ _ w.read.ensures w.write.ensures in
+    rw (w.to-is, w.lowers-is, w.uppers-is, w.k-is, w.l-is, w.u-is) (omega arith, omega arith, omega arith, omega arith, w.to-1.given ∙ o.invariant.4, o.invariant.5, o.invariant.6, d.0, d.1, lows only.0, ups only.1)
+    | else-e-eq0+then-e-lt0 w ↦
+    let low = below-read v m (i * 17) s.requires.1 t.e-1.given w.if-e-lt0.true in
+    let d = rest (other w.if-e-eq0.false) in
+    rw (w.to-is, w.lowers-is, w.uppers-is, w.k-is, w.l-is, w.u-is) (
       omega arith,
       omega arith,
       omega arith,
@@ -64,12 +64,12 @@ loop-again c =
       d.1,
       number_listed isBelow v m i o.lowers o.l o.invariant.9 (omega (arith, s.requires.0.few)) low,
       ups (below-only e low),
-    ))
-    (λ w.
-    let low = below-read v m (i * 17) s.requires.1 t.e-1.given w.1.left in
-    let none = other w.0.left in
+    )
+    | else-e-eq0+else-e-lt0 w ↦
+    let low = below-read v m (i * 17) s.requires.1 t.e-1.given w.if-e-lt0.false in
+    let none = other w.if-e-eq0.false in
     let d = rest none in
-    rw (w.2, w.3, w.4, w.5, w.6, w.7) (
+    rw (w.to-is, w.lowers-is, w.uppers-is, w.k-is, w.l-is, w.u-is) (
       omega arith,
       omega arith,
       omega arith,
@@ -81,8 +81,8 @@ loop-again c =
       d.1,
       lows low,
       number_listed isAbove v m i o.uppers o.u o.invariant.10 (omega (arith, s.requires.0.few)) (above-left e none low),
-    )))
-    c.if-e-eq0.branch
+    )
+    ]
 
 returns : tie.Need-returns invariant-loop decreases-loop
 returns c =
@@ -101,20 +101,20 @@ split_spec =
     tie.close
     (tie.spec invariant-loop decreases-loop
     loop-holds
-    (λ c. omega (arith, c.before.before.before.before.requires.0.stands.room))
-    (λ c. omega (arith, c.before.before.before.before.requires.0.stands.room))
-    (λ c. omega (arith, c.before.before.before.before.requires.0.stands.room))
-    (λ c. omega (arith, c.before.before.before.before.requires.0.stands.room))
-    (λ c. omega (arith, c.before.before.before.before.before.before.requires.0.stands.room))
-    (λ c κs. omega (arith, c.before.before.before.before.before.before.requires.0.stands.room))
-    (λ c. omega (arith, c.before.before.before.before.before.before.before.before.requires.0.few))
-    (λ c κs. omega (arith, c.before.before.before.before.before.before.before.before.requires.0.few))
+    (λ c. omega (arith, c.requires.0.stands.room))
+    (λ c. omega (arith, c.requires.0.stands.room))
+    (λ c. omega (arith, c.requires.0.stands.room))
+    (λ c. omega (arith, c.requires.0.stands.room))
+    (λ c. omega (arith, c.requires.0.stands.room))
+    (λ c κs. omega (arith, c.requires.0.stands.room))
+    (λ c. omega (arith, c.requires.0.few))
+    (λ c κs. omega (arith, c.requires.0.few))
     (λ c. omega arith)
-    (λ c. omega (arith, c.before.before.before.before.before.before.before.requires.0.few))
-    (λ c. omega (arith, c.before.before.before.before.before.before.before.requires.0.few))
+    (λ c. omega (arith, c.requires.0.few))
+    (λ c. omega (arith, c.requires.0.few))
     (λ c. omega arith)
-    (λ c. omega (arith, c.before.before.before.before.before.before.before.requires.0.few))
-    (λ c. omega (arith, c.before.before.before.before.before.before.before.requires.0.few))
+    (λ c. omega (arith, c.requires.0.few))
+    (λ c. omega (arith, c.requires.0.few))
     (λ c. omega arith)
     (λ c. omega arith)
     (λ c. omega arith)

@@ -22,13 +22,13 @@ lows c = take c.split-s.result.lowers c.split-s.new.lowers
 abbrev ups : tie.After-split-s → List ℕ
 ups c = take c.split-s.result.uppers c.split-s.new.uppers
 
-lowers-fit : (c : tie.After-split-s) → (c.split-s.result.lowers ≤ length c.split-s.new.lowers) × All (λ j. SmallAt c.before.before.before.before.args.from.now (j * row_numbers)) (lows c)
+lowers-fit : (c : tie.After-split-s) → (c.split-s.result.lowers ≤ length c.split-s.new.lowers) × All (λ j. SmallAt c.args.from.now (j * row_numbers)) (lows c)
 lowers-fit c =
     let s = c.before.before.before.before in
     let e = c.split-s.ensures.1.1 in
     (part_room c.split-s.new.lowers _ _ e.0 e.1.0, rw e.1.0 (lowers-small s.args.v s.args.from.now s.args.n s.requires.0.holds))
 
-uppers-fit : (c : tie.After-split-s) → (let z = c.before.before.before.before.args in (c.split-s.result.uppers ≤ length c.split-s.new.uppers) × All (λ i. SmallAt z.from.now (i * row_numbers) × IsPos (entry z.v (row_of z.from.now i))) (ups c))
+uppers-fit : (c : tie.After-split-s) → (let z = c.args in (c.split-s.result.uppers ≤ length c.split-s.new.uppers) × All (λ i. SmallAt z.from.now (i * row_numbers) × IsPos (entry z.v (row_of z.from.now i))) (ups c))
 uppers-fit c =
     let s = c.before.before.before.before in
     let e = c.split-s.ensures.1.1.1.1 in
