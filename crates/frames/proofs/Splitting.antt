@@ -9,7 +9,7 @@ use lib.Dec.{eqb}
 use lib.ListN.{length, drop}
 use Rattle.integers.proofs.Tests.{false_of}
 use Rattle.sets.specs.declared.Refusal.{Refusal}
-use Rattle.sets.specs.declared.Refusal.TheVariants.{NoFrame}
+use Rattle.sets.specs.declared.Refusal.TheVariants.{NoFrame, Misplaced, HeaderRange, ReferenceRange, Undeclared, WrongTerms, InitialBroken, InvariantBroken, EntryTooLarge, TooManyRows, NoRoom, BudgetUsed, ShortStore}
 use Rattle.sets.specs.Outcomes.{Result, found, refused, and_then}
 use Rattle.sets.proofs.Results.{refused-not, found-same}
 use Rattle.models.specs.declared.Model.{Model}
@@ -129,6 +129,18 @@ paired : (c d : ℕ) (cs : List ℕ) (p : Result ℕ) → pair c d ≡ p → Bel
 unfolding and_then
 paired c d cs p e k true f o ih none = front (empty-front c (d ∷ cs) f)
 paired c d cs (refused NoFrame) e foreign false f o ih none = broken (pair-broken c d cs f e)
+paired c d cs (refused Misplaced) e k false f o ih none = elim k [ ]
+paired c d cs (refused HeaderRange) e k false f o ih none = elim k [ ]
+paired c d cs (refused ReferenceRange) e k false f o ih none = elim k [ ]
+paired c d cs (refused Undeclared) e k false f o ih none = elim k [ ]
+paired c d cs (refused WrongTerms) e k false f o ih none = elim k [ ]
+paired c d cs (refused InitialBroken) e k false f o ih none = elim k [ ]
+paired c d cs (refused InvariantBroken) e k false f o ih none = elim k [ ]
+paired c d cs (refused EntryTooLarge) e k false f o ih none = elim k [ ]
+paired c d cs (refused TooManyRows) e k false f o ih none = elim k [ ]
+paired c d cs (refused NoRoom) e k false f o ih none = elim k [ ]
+paired c d cs (refused BudgetUsed) e k false f o ih none = elim k [ ]
+paired c d cs (refused ShortStore) e k false f o ih none = elim k [ ]
 paired c d [] (found v) e (value k) false f o ih none = rw (none refl) (broken (ends-here c d v e))
 paired c d (x ∷ xs) (found v) e (value k) false f o ih none = go o (ih x xs refl)
   where

@@ -36,7 +36,7 @@ returns c =
     let a = s.args.at in
     let to = s.args.to.now in
     let f : ℕ = cond s.args.strict 1 0 in
-    let two = wrote_then (digits_of (big_endian 2 768)) (digits_of (big_endian 2 f)) a _ _ to _ _ (omega (arith, s.requires)) t.put_two-owner.ensures (rw n.number_of_lem.ensures at u.put_two-flag.ensures) in
+    let two = wrote_then (digits_of (big_endian 2 768)) (digits_of (big_endian 2 f)) a _ _ to _ _ (omega (arith, s.requires)) t.put_two-owner.ensures (rw n.number_of.ensures at u.put_two-flag.ensures) in
     rw (head_digits s.args.strict s.args.terms) (wrote_then (digits_of (big_endian 2 768) ++ digits_of (big_endian 2 f)) (digits_of (s.args.terms ∷ [])) a _ _ to _ _ (omega (arith, s.requires)) two p.put_byte.ensures)
 
 pub put_head_spec : {M : Type 1} → statement M

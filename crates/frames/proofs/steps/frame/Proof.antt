@@ -68,29 +68,30 @@ returns c s bs e size same = rw (frame-none s bs (size ∙ c.before.if-count-eq0
 sub-b : tie.Need-slice_bounds-b-count
 sub-b c = (n-is c.before).0
 
-part-b-start : tie.Need-slice-bounds-b-start
+part-b-start : tie.Need-slice_bounds-b-start
 part-b-start c = (n-is c.before).0
 
-part-b-end : tie.Need-slice-bounds-b-end
+part-b-end : tie.Need-slice_bounds-b-end
 part-b-end c = let h = n-is c.before in omega arith
 
 content-requires : tie.Need-content-requires
 content-requires c κs =
-    let o = c.before in
+    let f = c.before in
+    let o = f.before in
     let s = start o in
-    rw o.before.before.before.before.held-n.ensures (
+    rw o.held-n.ensures (
       s.requires.0,
-      (place c).low,
-      (place c).high,
-      shown-length (to o) s.args.count s.requires.1 (fits c) ∙ (place c).size,
+      (place f).low,
+      (place f).high,
+      shown-length (to o) s.args.count s.requires.1 (fits f) ∙ (place f).size,
     )
 
 returns-2 : tie.Need-returns-in-Found
 returns-2 c s bs e size same =
-    let t = c.before in
+    let t = c.before.before in
     let o = t.before in
     let g : Told c.content.result s (content s (get_or (to o) 0 0) (shown o)) =
-    rw o.before.before.before.before.held-n.ensures at (c.content.ensures s (ap (λ (q : Progress). q.header) e)) in
+    rw o.held-n.ensures at (c.content.ensures s (ap (λ (q : Progress). q.header) e)) in
     let w = whole-shown (to o) bs (start o).args.count size (start o).requires.1 same (some o) (fits t) in
     let is : frame s bs ≡ content s (get_or (to o) 0 0) (shown o) =
     frame-told o s bs e size same ∙ ap (λ (q : Outcome). passed q (content s (get_or (to o) 0 0) (drop 1 bs))) t.in-Found.is ∙ ap (content s (get_or (to o) 0 0)) (sym w) in

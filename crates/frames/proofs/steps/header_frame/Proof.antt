@@ -11,13 +11,13 @@ returns : tie.Need-returns-then-not-fits
 unfolding header_frame
 returns c s =
     let f = c.before.before in
-    rw (sym (rw f.before.header_of-h.ensures at f.fits2.ensures) ∙ not-true f.fits2.result c.before.if-not-fits.true-raw) c.blank.ensures.1
+    rw (sym (rw f.before.header_of-h.ensures at f.fits.ensures) ∙ not-true f.fits.result c.before.if-not-fits.true-raw) c.blank.ensures.1
 
 returns-2 : tie.Need-returns
 unfolding header_frame
 returns-2 c s =
     let f = c.before.before in
-    rw (sym (rw f.before.header_of-h.ensures at f.fits2.ensures) ∙ not-false f.fits2.result c.before.if-not-fits.false-raw)
+    rw (sym (rw f.before.header_of-h.ensures at f.fits.ensures) ∙ not-false f.fits.result c.before.if-not-fits.false-raw)
     (met-header _ s c.blank-f.ensures.1 (header_of f.args.b.now) c.blank-f.ensures.0 f.before.header_of-h.ensures)
 
 pub header_frame_spec : {M : Type 1} → statement M

@@ -4,7 +4,7 @@ use Rattle.frames.proofs.steps.nothing.Statement.{statement}
 use Rattle.frames.proofs.steps.nothing.Tie as tie
 
 returns : tie.Need-returns
-returns c = rw (c.before.no_Header.ensures, c.no_reference.ensures)
+returns c = rw (c.before.no_header.ensures, c.no_reference.ensures)
 
 pub nothing_spec : {M : Type 1} → statement M
 nothing_spec = tie.close (tie.spec
