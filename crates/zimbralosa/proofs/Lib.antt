@@ -1,10 +1,5 @@
-pub mod Again
-pub mod Alloc
-pub mod Big
 pub mod Clearing
 pub mod Counts
 pub mod Givens
-pub mod Local
 pub mod Only
 pub mod Over
-pub mod Shared
