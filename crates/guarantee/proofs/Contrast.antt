@@ -158,6 +158,7 @@ not-single x = by x.in_table
     by (here f) = other x.by x.is_event f
     by (there (here f)) = too_late x.k x.d x.k_pos (stays_at x.k x.d x.stays)
         (guard-at x.k x.d (subst (λ (t : Edge). MeetsC (waited x.k x.d (zeroC a9.reference)) t.guard) f x.guard))
+    by (there (there i)) = elim i [ ]
 
 pub never-shows : ¬ Trace a9 (reference_setting a9) (that ∷ [])
 never-shows x =
