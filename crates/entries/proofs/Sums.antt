@@ -1,12 +1,11 @@
 -- Entry by entry: sums and multiples of entries, and one entry changed. Assumes nothing.
 use mathlib.Core.Path.{◌≡◌, refl, sym, ap, ◌∙◌}
 use mathlib.Core.Logic.{◌≢◌}
-use mathlib.Core.List.{List, [], ◌∷◌, map}
-use Prim.Native.Nat.{ℕ, zero, suc, ◌≤◌, ◌<◌}
+use mathlib.Core.List.{List, [], ◌∷◌}
+use Prim.Native.Nat.{ℕ, zero, suc, ◌<◌}
 use native.Mathlib.Nat.{suc_inj, suc-ne-zero, le_of_suc-le-suc, not-suc-le-zero}
-use native.Mathlib.Omega.{arith}
-use lib.ListN.{length, set, length-map, length-set, get_or-map}
-use lib.IntN.{ℤ, pos, ◌+ℤ◌, ◌*ℤ◌, +ℤ_idl, +ℤ_idr, *ℤ-zero}
+use lib.ListN.{length, set, length-map, length-set}
+use lib.IntN.{ℤ, ◌+ℤ◌, ◌*ℤ◌, +ℤ_idl, +ℤ_idr, *ℤ-zero}
 use Rattle.entries.specs.Entries.{at, plus, times, with_entry}
 
 pub at-plus : (l m : List ℤ) (v : ℕ) → at (plus l m) v ≡ at l v +ℤ at m v

@@ -1,17 +1,14 @@
 -- DEMAND 3 of what the entries return, from their contracts alone. Assumes nothing.
 use mathlib.Core.Path.{◌≡◌, refl, sym, ap, subst, ◌∙◌}
 use mathlib.Core.Bool.{Bool, true, false, cond}
-use mathlib.Core.List.{List}
 use Prim.Native.Nat.{ℕ}
-use lib.IntN.{ℤ}
 use Rattle.sets.specs.declared.Outcome.{Outcome}
 use Rattle.sets.specs.declared.Outcome.TheVariants.{Found, Refused}
 use Rattle.sets.specs.declared.Refusal.TheVariants.{ShortStore}
 use Rattle.sets.specs.Stores.{with_rows}
 use Rattle.models.specs.declared.Model.{Model}
 use Rattle.models.specs.Acceptance.{accepted}
-use Rattle.method.specs.declared.Record.{Record}
-use Rattle.method.specs.Entry.{Stores, Run, short, refused_at_entry, run_accepted, run, run_hex}
+use Rattle.method.specs.Entry.{Stores, Run, short, refused_at_entry, run_accepted, run}
 use Rattle.method.proofs.Entry.{not_found, ran_hex}
 use Rattle.attempts.specs.declared.Answer.{Answer}
 use Rattle.zimbralosa.specs.Entries.{lent, Ran}

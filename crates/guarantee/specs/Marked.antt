@@ -1,14 +1,11 @@
 -- The marked examples M1 to M10 and the further ones (rules, "Marked examples"), as one claim about the definitions.
-use Rattle.std.specs.Prelude.{◌≡◌, Bool, true, false, List, [], ◌∷◌, ◌++◌, ℕ, ◌*◌, replicate, ℤ, pos, neg_ℤ}
+use Rattle.std.specs.Prelude.{◌≡◌, true, false, List, [], ◌∷◌, ◌++◌, ℕ, ◌*◌, replicate, ℤ, pos, neg_ℤ}
 use Rattle.rows.specs.declared.Row.{Row}
 use Rattle.rows.specs.Rows.{entry_count, row_numbers, set_numbers, with_entry, false_row, negated, kept, gone, too_large, divided_down}
 use Rattle.sets.specs.declared.Refusal.TheVariants.{Misplaced, EntryTooLarge, BudgetUsed}
-use Rattle.sets.specs.declared.Outcome.{Outcome}
 use Rattle.sets.specs.declared.Outcome.TheVariants.{Found, Refused}
 use Rattle.sets.specs.Outcomes.{found, refused}
 use Rattle.removal.specs.Removal.{removed}
-use Rattle.models.specs.declared.Header.{Header}
-use Rattle.models.specs.declared.Reference.{Reference}
 use Rattle.models.specs.declared.Transition.{Transition}
 use Rattle.models.specs.declared.ModelRow.{ModelRow}
 use Rattle.models.specs.declared.Model.{Model}

@@ -1,6 +1,6 @@
 -- What is promised of a region (demand 3), over the automaton's own runs: nothing here speaks of symbolic states, K or the exploration,
 -- but that the region is the one that a run of the method returned.
-use Rattle.std.specs.Prelude.{◌≡◌, ◌↔◌, ◌≢◌, List, [], ℕ, ◌<◌, ◌≤◌, length, pos}
+use Rattle.std.specs.Prelude.{◌≡◌, ◌↔◌, List, [], ℕ, ◌<◌, ◌≤◌, length, pos}
 use Rattle.integers.specs.Lists.{All}
 use Rattle.rows.specs.declared.Row.{Row}
 use Rattle.rows.specs.Rows.{set_rows, at, Small}

@@ -1,1 +1,3 @@
+#![tactic(auto)]
+
 // What the method promises; nothing is computed here.

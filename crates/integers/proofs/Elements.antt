@@ -1,10 +1,10 @@
 -- An element of an array of signed integers is within the type's range: from what a need is handed of the array, by `search`. Assumes nothing.
-use mathlib.Core.Path.{◌≡◌, subst}
+use mathlib.Core.Path.{subst}
 use mathlib.Core.List.{List, [], ◌∷◌, map, map-id}
 use Prim.Native.Nat.{ℕ, zero, suc, ◌^◌, ◌≤◌, ◌<◌}
 use lib.Dec.{lit<}
 use lib.ListN.{get_or}
-use lib.IntN.{ℤ, pos, negsuc, nat_abs}
+use lib.IntN.{ℤ, pos, nat_abs}
 use lib.Signed.{mag, nat_abs-le}
 use mir.Syntax.{Width, w8, w16, w32, w64, w128}
 use mir.Val.{Val, hbits}

@@ -1,5 +1,5 @@
 -- `gcd` is the greatest common divisor, and the only number that is; division by a divisor is exact. Assumes nothing.
-use mathlib.Core.Path.{◌≡◌, refl, sym, ap, ◌∙◌, subst}
+use mathlib.Core.Path.{◌≡◌, refl, sym, ap, ◌∙◌}
 use Prim.Native.Nat.{ℕ, zero, suc, ◌+◌, ◌*◌, ◌/◌, ◌%◌, ◌≤◌, ◌<◌, ◌∣◌}
 use native.Mathlib.Nat.{dvd-mod_iff, dvd_refl, dvd-zero, dvd_antisymm, mod-lt, mod-le, mod-eq-zero_of_dvd, mod-eq_of_lt, add-mul-mod_self_left, div-add-mod, mul-zero, mul-lt-mul_of_pos_left, not-suc-le-zero, le_refl, le_trans, lt_irrefl, zero-lt-suc}
 use native.Mathlib.Omega.{arith}

@@ -1,11 +1,11 @@
 -- Order over ℤ by `omega`. The terms are read by `search read`, their difference is made a sum of monomials, and each monomial's two parts are atoms:
 -- `le-by ρ (search read) (omega (arith, le_as ρ (search read) h, ..))`, with the list ρ of the unknowns.
-use mathlib.Core.Path.{◌≡◌, refl, sym, ◌∙◌, ap, ap₂, subst}
+use mathlib.Core.Path.{◌≡◌, refl, ap₂, subst}
 use mathlib.Core.List.{List, [], ◌∷◌}
-use Prim.Native.Nat.{ℕ, zero, suc, ◌+◌, ◌*◌, ◌≤◌, ◌<◌}
+use Prim.Native.Nat.{ℕ, ◌+◌, ◌*◌, ◌≤◌, ◌<◌}
 use native.Mathlib.Omega.{arith}
 use lib.Dec.{T}
-use lib.IntN.{ℤ, pos, negsuc, ◌+ℤ◌, ◌-ℤ◌, ◌*ℤ◌, neg_ℤ}
+use lib.IntN.{ℤ, ◌+ℤ◌, ◌-ℤ◌, ◌*ℤ◌, neg_ℤ}
 use lib.Signed.{◌≤ℤ◌, ◌<ℤ◌}
 use Rattle.integers.proofs.Whole.{up, dn, add-fact, mul_fact, up_neg, dn-neg, le_in, lt_in, eq_in, le_out, lt_out, eq_out}
 use Rattle.integers.proofs.Ring.{Ex, Term, ◌⊖◌, den, den_mono, den_poly, norm, norm-sound, vanishes}

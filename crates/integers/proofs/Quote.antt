@@ -1,10 +1,9 @@
 -- `search quote` reads a term of ℤ into an expression, so that an equation of polynomials is `auto (x ∷ y ∷ []) (search quote) (search quote) tt`.
-use mathlib.Core.Path.{◌≡◌, refl, sym, ◌∙◌, ap, ap₂, subst}
-use mathlib.Core.List.{List, [], ◌∷◌}
-use Prim.Native.Nat.{ℕ, zero, suc}
+use mathlib.Core.Path.{◌≡◌, refl, sym, ◌∙◌, ap, ap₂}
+use mathlib.Core.List.{List, ◌∷◌}
+use Prim.Native.Nat.{ℕ}
 use lib.Dec.{T}
-use lib.IntN.{ℤ, pos, negsuc, ◌+ℤ◌, ◌-ℤ◌, ◌*ℤ◌, neg_ℤ}
-use lib.ListN.{get_or}
+use lib.IntN.{ℤ, pos, negsuc, ◌+ℤ◌, ◌*ℤ◌, neg_ℤ}
 use Rattle.integers.proofs.Ring.{Ex, var, num, neg, ◌⊕◌, ◌⊗◌, ◌⊖◌, den, norm, vanishes, solve}
 
 pub record Q (ρ : List ℤ) (x : ℤ) : Type 0 where

@@ -1,16 +1,16 @@
 -- Equations of polynomials over ℤ, by computation: both sides are made sums of monomials, and their difference vanishes.
 -- Terms may cancel, numbers are computed. `Quote` reads the two sides, `Order.ring-by` is the tactic.
-use mathlib.Core.Path.{◌≡◌, refl, sym, ◌∙◌, ap, ap₂, subst}
-use mathlib.Core.Bool.{Bool, true, false, not, cond, ◌&&◌}
+use mathlib.Core.Path.{◌≡◌, refl, sym, ◌∙◌, ap, ap₂}
+use mathlib.Core.Bool.{Bool, true, false, cond, ◌&&◌}
 use mathlib.Core.List.{List, [], ◌∷◌}
-use Prim.Native.Nat.{ℕ, zero, suc}
+use Prim.Native.Nat.{ℕ}
 use lib.Dec.{T, leb, eqb}
 use borrow.Author.Tests.{eqb-true}
-use lib.IntN.{ℤ, pos, negsuc, ◌+ℤ◌, ◌-ℤ◌, ◌*ℤ◌, neg_ℤ, +ℤ_idl, +ℤ_idr, *ℤ-zero, zero-*ℤ, +ℤ_assoc, +ℤ_comm, *ℤ_comm}
+use lib.IntN.{ℤ, pos, negsuc, ◌+ℤ◌, ◌*ℤ◌, neg_ℤ, +ℤ_idl, +ℤ_idr, *ℤ-zero, zero-*ℤ, +ℤ_assoc, *ℤ_comm}
 use lib.ListN.{get_or}
 use Rattle.integers.specs.Signs.{is_zero}
 use Rattle.integers.proofs.Tests.{and_left, and_right, not-both, true_of, zero_of, from_difference}
-use Rattle.integers.proofs.Whole.{ring, +ℤ-*ℤ, *ℤ-+ℤ, *ℤ-assoc, *ℤ-left-comm, +ℤ-left-comm, one-*ℤ, neg-*ℤ}
+use Rattle.integers.proofs.Whole.{ring, +ℤ-*ℤ, *ℤ-assoc, *ℤ-left-comm, +ℤ-left-comm, one-*ℤ, neg-*ℤ}
 
 pub data Ex : Type 0 where
   var : ℕ → Ex

@@ -14,7 +14,7 @@ use Rattle.integers.proofs.Tests.{true_of, zero_of, one_of_three}
 use Rattle.integers.proofs.Lists.{all_map, all-zip, all_of, all_append, all_filter, all_pairs}
 use Rattle.integers.proofs.Whole.{ring, IsPos, is_pos, of-pos}
 use Rattle.rows.specs.declared.Row.{Row}
-use Rattle.rows.specs.Rows.{at, paired}
+use Rattle.rows.specs.Rows.{paired}
 use Rattle.rows.proofs.Meaning.{rest}
 use Rattle.rows.proofs.Pairing.{paired_blind, paired-rest, paired-holds}
 use Rattle.removal.specs.Removal.{entry, untouched, uppers, lowers, remaining}

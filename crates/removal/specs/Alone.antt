@@ -1,11 +1,10 @@
 -- Removal between two lent stores, and removal called alone (rules, "Rows and sets" and "Numbers of the outcomes").
-use Rattle.std.specs.Prelude.{◌≡◌, Bool, true, false, not, cond, ◌&&◌, ◌||◌, List, [], ◌∷◌, ◌++◌, ℕ, zero, suc, ◌+◌, ◌*◌, ◌≤◌, leb, ltb, length, take, drop, get_or, ℤ, pos}
+use Rattle.std.specs.Prelude.{◌≡◌, Bool, true, false, not, cond, ◌&&◌, ◌||◌, List, [], ◌∷◌, ◌++◌, ℕ, ◌+◌, ◌*◌, ◌≤◌, leb, ltb, length, take, drop, get_or, ℤ, pos}
 use Rattle.std.specs.Borrow.{Bor, MutBor}
 use Rattle.integers.specs.Lists.{All, every, from}
 use Rattle.integers.specs.Signs.{is_zero}
 use Rattle.rows.specs.declared.Row.{Row}
 use Rattle.rows.specs.Rows.{entry_count, row_numbers, set_rows, set_numbers, kept, divided_down, is_one}
-use Rattle.sets.specs.declared.Refusal.{Refusal}
 use Rattle.sets.specs.declared.Refusal.TheVariants.{Undeclared, TooManyRows, ShortStore}
 use Rattle.sets.specs.declared.Outcome.{Outcome}
 use Rattle.sets.specs.declared.Outcome.TheVariants.{Found, Refused}

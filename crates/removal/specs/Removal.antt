@@ -4,7 +4,7 @@ use Rattle.integers.specs.Lists.{filter, pairs}
 use Rattle.integers.specs.Signs.{is_zero, isAbove, isBelow}
 use Rattle.rows.specs.declared.Row.{Row}
 use Rattle.rows.specs.Rows.{at, paired}
-use Rattle.sets.specs.Outcomes.{Result, found, refused, and_then}
+use Rattle.sets.specs.Outcomes.{Result, found, and_then}
 use Rattle.sets.specs.Sets.{joined}
 
 abbrev pub entry : ℕ → Row → ℤ

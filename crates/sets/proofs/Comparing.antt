@@ -19,7 +19,7 @@ use Rattle.rows.specs.declared.Row.{Row}
 use Rattle.rows.specs.Rows.{row_numbers, empty_row, number_order, numbers, row_at}
 use Rattle.rows.proofs.Blocks.{bits_order}
 use Rattle.rows.proofs.Ordering.{number_same, number_itself, order_same}
-use Rattle.rows.proofs.Stores.{get_d_part, length_part, part-is}
+use Rattle.rows.proofs.Stores.{get_d_part, length_part}
 use Rattle.sets.specs.Sets.{is_same, same_rows, same_numbers}
 use Rattle.sets.specs.Stores.{rows_at, Stands}
 use Rattle.sets.proofs.Stores.{length-rows_at, getD_rows_at, row-alike, stands-row}

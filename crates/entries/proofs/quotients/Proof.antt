@@ -6,7 +6,7 @@ use borrow.Author.Rules.{rules}
 use lib.ListN.{length, get_or, replicate}
 use lib.IntN.{ℤ, pos}
 use lib.Signed.{quot_z}
-use mir.Syntax.{w32, w64}
+use mir.Syntax.{w64}
 use Rattle.integers.proofs.Bounds.{back}
 use Rattle.integers.proofs.Loops.{front, front-none, front-more, front-map}
 use Rattle.entries.proofs.quotients.Statement.{statement}

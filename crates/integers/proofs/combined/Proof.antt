@@ -1,5 +1,4 @@
 -- `integers::combined` meets its contract: 2 · 10^18 fits. Assumes nothing.
-use mathlib.Core.Path.{◌≡◌, refl}
 use native.Mathlib.Omega.{arith}
 use lib.IntN.{◌+ℤ◌, ◌*ℤ◌}
 use mir.Syntax.{w64}

@@ -1,6 +1,5 @@
 -- `integers::gcd_of` meets its contract: each step of the loop keeps the greatest common divisor. Assumes nothing.
-use mathlib.Core.Path.{◌≡◌, refl, sym, ◌∙◌}
-use Prim.Native.Nat.{◌≤◌, ◌<◌, ◌%◌}
+use mathlib.Core.Path.{◌≡◌, refl, ◌∙◌}
 use native.Mathlib.Nat.{mod-lt}
 use native.Mathlib.Omega.{arith}
 use Rattle.integers.specs.Gcd.{gcd}

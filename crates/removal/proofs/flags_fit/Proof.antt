@@ -1,6 +1,5 @@
 -- `removal::flags_fit` meets its contract: the test of the flags left is the test of all. Assumes nothing.
 use mathlib.Core.Path.{◌≡◌, ◌∙◌}
-use mathlib.Core.Logic.{⊎_elim}
 use Prim.Native.Nat.{◌+◌, ◌-◌, ◌*◌, ◌≤◌}
 use native.Mathlib.Omega.{arith}
 use borrow.Author.Rules.{rules}

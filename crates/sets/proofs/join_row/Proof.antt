@@ -1,5 +1,5 @@
 -- `sets::join_row` meets its contract: a row with an entry 1 or −1 is divided down already. Assumes nothing.
-use mathlib.Core.Path.{◌≡◌, refl, sym, ap, ◌∙◌}
+use mathlib.Core.Path.{◌≡◌, sym, ap, ◌∙◌}
 use mathlib.Core.Bool.{true, false}
 use mathlib.Core.List.{[]}
 use borrow.Author.Rules.{rules}

@@ -1,6 +1,5 @@
 -- `removal::pairs::split` meets its contract: before row i the rows so far are written or listed. Assumes nothing.
 use mathlib.Core.Path.{◌≡◌, refl, sym, ap, ◌∙◌}
-use mathlib.Core.Logic.{⊎_elim}
 use Prim.Native.Nat.{◌-◌, ◌*◌, ◌≤◌}
 use native.Mathlib.Omega.{arith}
 use lib.ListN.{length, take, length-set}
@@ -44,44 +43,44 @@ loop-again c =
     let rest = untouched-passed v m i o.k o.to z.to.now o.invariant.7 o.invariant.8 in
     let other = other_read v m (i * 17) s.requires.1 t.e-1.given in
     elim c.if-e-eq0.branch [
-    then-e-eq0 w ↦
-    let zero = zero-read v m (i * 17) s.requires.1 t.e-1.given w.if-e-eq0.true in
-    let only = zero-only e zero in
-    let d = untouched-kept v m i o.k o.to z.to.now o.invariant.7 o.invariant.8 (omega (arith, s.requires.0.stands.room)) zero _ _ w.read.ensures w.write.ensures in
-    rw (w.to-is, w.lowers-is, w.uppers-is, w.k-is, w.l-is, w.u-is) (omega arith, omega arith, omega arith, omega arith, w.to-1.given ∙ o.invariant.4, o.invariant.5, o.invariant.6, d.0, d.1, lows only.0, ups only.1)
-    | else-e-eq0+then-e-lt0 w ↦
-    let low = below-read v m (i * 17) s.requires.1 t.e-1.given w.if-e-lt0.true in
-    let d = rest (other w.if-e-eq0.false) in
-    rw (w.to-is, w.lowers-is, w.uppers-is, w.k-is, w.l-is, w.u-is) (
-      omega arith,
-      omega arith,
-      omega arith,
-      omega arith,
-      o.invariant.4,
-      simp length-set o.invariant.5,
-      o.invariant.6,
-      d.0,
-      d.1,
-      number_listed isBelow v m i o.lowers o.l o.invariant.9 (omega (arith, s.requires.0.few)) low,
-      ups (below-only e low),
-    )
-    | else-e-eq0+else-e-lt0 w ↦
-    let low = below-read v m (i * 17) s.requires.1 t.e-1.given w.if-e-lt0.false in
-    let none = other w.if-e-eq0.false in
-    let d = rest none in
-    rw (w.to-is, w.lowers-is, w.uppers-is, w.k-is, w.l-is, w.u-is) (
-      omega arith,
-      omega arith,
-      omega arith,
-      omega arith,
-      o.invariant.4,
-      o.invariant.5,
-      simp length-set o.invariant.6,
-      d.0,
-      d.1,
-      lows low,
-      number_listed isAbove v m i o.uppers o.u o.invariant.10 (omega (arith, s.requires.0.few)) (above-left e none low),
-    )
+      | then-e-eq0 w ↦
+          let zero = zero-read v m (i * 17) s.requires.1 t.e-1.given w.if-e-eq0.true in
+          let only = zero-only e zero in
+          let d = untouched-kept v m i o.k o.to z.to.now o.invariant.7 o.invariant.8 (omega (arith, s.requires.0.stands.room)) zero _ _ w.read.ensures w.write.ensures in
+          rw (w.to-is, w.lowers-is, w.uppers-is, w.k-is, w.l-is, w.u-is) (omega arith, omega arith, omega arith, omega arith, w.to-1.given ∙ o.invariant.4, o.invariant.5, o.invariant.6, d.0, d.1, lows only.0, ups only.1)
+      | else-e-eq0+then-e-lt0 w ↦
+          let low = below-read v m (i * 17) s.requires.1 t.e-1.given w.if-e-lt0.true in
+          let d = rest (other w.if-e-eq0.false) in
+          rw (w.to-is, w.lowers-is, w.uppers-is, w.k-is, w.l-is, w.u-is) (
+            omega arith,
+            omega arith,
+            omega arith,
+            omega arith,
+            o.invariant.4,
+            simp length-set o.invariant.5,
+            o.invariant.6,
+            d.0,
+            d.1,
+            number_listed isBelow v m i o.lowers o.l o.invariant.9 (omega (arith, s.requires.0.few)) low,
+            ups (below-only e low),
+          )
+      | else-e-eq0+else-e-lt0 w ↦
+          let low = below-read v m (i * 17) s.requires.1 t.e-1.given w.if-e-lt0.false in
+          let none = other w.if-e-eq0.false in
+          let d = rest none in
+          rw (w.to-is, w.lowers-is, w.uppers-is, w.k-is, w.l-is, w.u-is) (
+            omega arith,
+            omega arith,
+            omega arith,
+            omega arith,
+            o.invariant.4,
+            o.invariant.5,
+            simp length-set o.invariant.6,
+            d.0,
+            d.1,
+            lows low,
+            number_listed isAbove v m i o.uppers o.u o.invariant.10 (omega (arith, s.requires.0.few)) (above-left e none low),
+          )
     ]
 
 returns : tie.Need-returns invariant-loop decreases-loop

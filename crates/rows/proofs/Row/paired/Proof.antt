@@ -1,9 +1,8 @@
 -- `rows::Row::paired` meets its contract. Assumes nothing.
-use mathlib.Core.Path.{◌≡◌, refl, sym, ap, ◌∙◌}
+use mathlib.Core.Path.{◌≡◌, ap, ◌∙◌}
 use native.Mathlib.Omega.{arith}
 use borrow.Author.Rules.{rules}
-use lib.ListN.{get_or}
-use lib.IntN.{ℤ, pos, neg_ℤ}
+use lib.IntN.{neg_ℤ}
 use mir.Syntax.{w32, w64}
 use mir.Val.{to_z, of_z}
 use Rattle.integers.proofs.Bounds.{back, natAbs_neg}

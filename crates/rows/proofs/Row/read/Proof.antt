@@ -1,11 +1,10 @@
 -- `rows::Row::read` meets its contract. Assumes nothing.
-use mathlib.Core.Path.{◌≡◌, refl, sym, ap, ◌∙◌}
+use mathlib.Core.Path.{◌≡◌, refl}
 use Prim.Native.Nat.{◌+◌, ◌-◌, ◌≤◌}
 use native.Mathlib.Omega.{arith}
 use borrow.Author.Rules.{rules}
-use lib.ListN.{length, get_or, replicate}
-use lib.IntN.{ℤ, pos}
-use mathlib.Core.Bool.{Bool}
+use lib.ListN.{get_or, replicate}
+use lib.IntN.{pos}
 use mir.Syntax.{w32}
 use Rattle.integers.proofs.Bounds.{back}
 use Rattle.integers.proofs.Loops.{front, front-none, front-more}

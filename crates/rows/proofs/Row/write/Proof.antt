@@ -1,11 +1,10 @@
 -- `rows::Row::write` meets its contract: after i turns the first i numbers are pasted. Assumes nothing.
-use mathlib.Core.Path.{◌≡◌, refl, sym, ap, ◌∙◌}
-use Prim.Native.Nat.{◌+◌, ◌-◌, ◌≤◌}
+use mathlib.Core.Path.{◌≡◌, refl, ◌∙◌}
+use Prim.Native.Nat.{◌-◌, ◌≤◌}
 use native.Mathlib.Omega.{arith}
 use borrow.Author.Rules.{rules}
-use lib.ListN.{length, get_or, length-set}
-use lib.Seq.{paste, paste-zero, length-paste}
-use lib.IntN.{ℤ, pos}
+use lib.ListN.{length, length-set}
+use lib.Seq.{paste, paste-zero}
 use mir.Syntax.{w32}
 use Rattle.integers.proofs.Bounds.{back}
 use Rattle.rows.specs.Rows.{numbers}
