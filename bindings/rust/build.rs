@@ -12,7 +12,7 @@ fn main() {
     // Said here, since the linker's own words would not name the remedy.
     if !archive.exists() {
         println!(
-            "cargo:warning=target/staticlib/libzimbralosa.a is missing: rt staticlib zimbralosa"
+            "cargo:warning=target/staticlib/libzimbralosa.a is missing: tools/archive makes it"
         );
     }
     println!("cargo:rustc-link-search=native={}", folder.display());

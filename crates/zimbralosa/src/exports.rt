@@ -1,5 +1,4 @@
-// The region and the removal under names that C and Rust programs link; the answer's numbers go to a lent store. A slice is passed as two
-// arguments, its pointer and its length.
+// The region and the removal as C and Rust programs call them through the crate `zimbralosa_c`: the answer's numbers go to a lent store.
 ghost use Rattle.std.specs.Prelude.{◌≡◌};
 ghost use Rattle.method.specs.Entry.{run_hex};
 ghost use Rattle.zimbralosa.specs.Entries.{lent};
@@ -25,8 +24,7 @@ fn put_counts(a: Answer, counts: &mut [u64]) -> u8
 }
 
 // The region of a model given as hex bytes.
-#[unsafe(no_mangle)]
-pub extern "C" fn zimbralosa_region(
+pub fn zimbralosa_region(
     input: &[u8],
     first: &mut [i32],
     second: &mut [i32],
@@ -66,8 +64,7 @@ fn put_placed(p: Placed, answer: &mut [u64]) -> u8
 }
 
 // The rows at the front of the first store without the variables.
-#[unsafe(no_mangle)]
-pub extern "C" fn zimbralosa_remove(
+pub fn zimbralosa_remove(
     first: &mut [i32],
     second: &mut [i32],
     count: usize,
