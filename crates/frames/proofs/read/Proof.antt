@@ -40,9 +40,6 @@ module _ (l : tie.At-loop-at invariant-loop decreases-loop) where
   all : read input ≡ remaining nothing input
   all = read_short input l.loop-at.invariant.2
 
-returns : tie.Need-returns-then-input-gt65536 invariant-loop decreases-loop
-returns c = c.refused.ensures ∙ sym (ap reading_of (read-long c.args.input.now c.before.if-input-gt65536.true))
-
 loop-holds : tie.Need-loop-at-init invariant-loop decreases-loop
 loop-holds c =
     let i = c.args.input.now in (
@@ -179,7 +176,7 @@ read_spec =
     invariant-loop
     decreases-loop
     (λ c κs. search rules)
-    returns
+    (λ c. c.refused.ensures ∙ sym (ap reading_of (read-long c.args.input.now (omega arith))))
     (λ c κs. search rules)
     (λ c κs. search rules)
     (λ c κs. search rules)
