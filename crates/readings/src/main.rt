@@ -6,40 +6,51 @@ ghost use Rattle.std.specs.Prelude.{ℕ, ◌≤◌, ◌<◌};
 
 use models::{Model, ModelRow, Transition};
 use sets::Outcome;
+use std::io;
+use std::io::{Read, Write};
 
-fn main() {
+fn main(rt: HostRuntime) -> io::Result<()> {
+    let mut reader = rt.stdin();
+    let mut writer = rt.stdout();
     let mut input = [0u8; 65600];
     for number in 0..10000 {
-        if !run_next(number, &mut input) {
-            return;
+        if !run_next(&mut reader, &mut writer, number, &mut input)? {
+            return Ok(());
         }
     }
+    Ok(())
 }
 
 // One case read and run; false where the input ends.
-fn run_next(number: usize, input: &mut [u8]) -> bool {
+fn run_next<R: Read, W: Write>(
+    reader: &mut R,
+    writer: &mut W,
+    number: usize,
+    input: &mut [u8],
+) -> io::Result<bool> {
     let mut w = [0u8; 4];
-    io::read_full(0, &mut w);
+    streams::read_full(reader, &mut w)?;
     let n = vectors::word(w) as usize;
     if input.len() < n {
-        return false;
+        return Ok(false);
     }
-    io::read_full(0, &mut input[0..n]);
-    run_case(number, &input[0..n]);
-    true
+    streams::read_full(reader, &mut input[0..n])?;
+    run_case(writer, number, &input[0..n])?;
+    Ok(true)
 }
 
-fn run_case(number: usize, input: &[u8]) {
+fn run_case<W: Write>(writer: &mut W, number: usize, input: &[u8]) -> io::Result<()> {
     let reading = frames::read(input);
     let model = reading.model;
     let read = reading.outcome;
     let outcome = outcome_of(read, model);
     let found = outcome.number();
-    vectors::print_case(number, found);
-    io::write_all(1, b"\n");
+    vectors::print_case(writer, number, found)?;
+    writer.write_all(b"\n")?;
     if found == 0 {
-        print_tables(model);
+        print_tables(writer, model)?;
     }
+    Ok(())
 }
 
 // What reading answers, and what checking does where the frames are in order.
@@ -51,22 +62,24 @@ fn outcome_of(read: Outcome, model: Model) -> Outcome {
 }
 
 // The numbers of the header and of the rows, and one number that all numbers of the tables enter in turn.
-fn print_tables(m: Model) {
+fn print_tables<W: Write>(writer: &mut W, m: Model) -> io::Result<()> {
     let h = m.header;
-    io::write_all(1, b"tables");
-    print_number(h.clocks as u64);
-    print_number(h.parameters as u64);
-    print_number(h.locations as u64);
-    print_number(h.transitions as u64);
-    print_number(m.count as u64);
-    io::write_all(1, b" sum");
-    print_number(with_rows(with_transitions(with_reference(1, m), m), m));
-    io::write_all(1, b"\n");
+    writer.write_all(b"tables")?;
+    print_number(writer, h.clocks as u64)?;
+    print_number(writer, h.parameters as u64)?;
+    print_number(writer, h.locations as u64)?;
+    print_number(writer, h.transitions as u64)?;
+    print_number(writer, m.count as u64)?;
+    writer.write_all(b" sum")?;
+    print_number(
+        writer,
+        with_rows(with_transitions(with_reference(1, m), m), m),
+    )?;
+    writer.write_all(b"\n")
 }
 
-fn print_number(n: u64) {
-    io::write_all(1, b" ");
-    io::print_decimal(1, n);
+fn print_number<W: Write>(writer: &mut W, n: u64) -> io::Result<()> {
+    write!(writer, " {n}")
 }
 
 fn with(h: u64, x: u64) -> u64

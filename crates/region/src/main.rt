@@ -2,15 +2,17 @@
 #![tactic(auto)]
 
 use attempts::Answer;
+use std::io;
+use std::io::Write;
 
-fn main() {
+fn main(rt: HostRuntime) -> io::Result<()> {
     // one byte more than a model may have, so that a longer input is seen to be longer
     let mut input = [0u8; 65537];
-    let n = io::read_full(0, &mut input);
-    run(&input[0..n]);
+    let n = streams::read_full(&mut rt.stdin(), &mut input)?;
+    run(&mut rt.stdout(), &input[0..n])
 }
 
-fn run(input: &[u8]) {
+fn run<W: Write>(writer: &mut W, input: &[u8]) -> io::Result<()> {
     let mut first = [0i32; 2176];
     let mut second = [0i32; 2176];
     let mut rows = [0i32; 15300];
@@ -23,23 +25,25 @@ fn run(input: &[u8]) {
         &mut result,
         100_000,
     );
-    print(a, &result);
+    print(writer, a, &result)
 }
 
 // The answer's lines. A count that the result store has no room for, which no run gives, would print nothing.
-fn print(a: Answer, res: &[i32]) {
+fn print<W: Write>(writer: &mut W, a: Answer, res: &[i32]) -> io::Result<()> {
     let mut out = [0u8; 16384];
     if a.rows <= 128 {
         if a.rows * 17 <= res.len() {
             let o = a.outcome;
             let w = frames::write_answer(o, a.states, a.attempts, a.formed, res, a.rows, &mut out);
-            put(&out, w.count);
+            put(writer, &out, w.count)?;
         }
     }
+    Ok(())
 }
 
-fn put(out: &[u8], n: usize) {
+fn put<W: Write>(writer: &mut W, out: &[u8], n: usize) -> io::Result<()> {
     if n <= out.len() {
-        io::write_all(1, &out[0..n]);
+        writer.write_all(&out[0..n])?;
     }
+    Ok(())
 }

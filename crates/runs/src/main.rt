@@ -3,6 +3,8 @@
 #![tactic(auto)]
 
 use attempts::Answer;
+use std::io;
+use std::io::{Read, Write};
 
 // What stands behind a case's input: the lengths of the stores and the roll, the budget and the filler.
 #[derive(Clone, Copy)]
@@ -16,7 +18,9 @@ struct Lent {
     filler: i32,
 }
 
-fn main() {
+fn main(rt: HostRuntime) -> io::Result<()> {
+    let mut reader = rt.stdin();
+    let mut writer = rt.stdout();
     // one byte more than a model may have, so that a longer input is seen to be longer
     let mut input = [0u8; 65537];
     let mut first = [0i32; 4000];
@@ -25,43 +29,57 @@ fn main() {
     let mut result = [0i32; 2500];
     for number in 0..10000 {
         if !run_next(
+            &mut reader,
+            &mut writer,
             number,
             &mut input,
             &mut first,
             &mut second,
             &mut rows,
             &mut result,
-        ) {
-            return;
+        )? {
+            return Ok(());
         }
     }
+    Ok(())
 }
 
 // One case read and run; false where the input ends.
-fn run_next(
+fn run_next<R: Read, W: Write>(
+    reader: &mut R,
+    writer: &mut W,
     number: usize,
     input: &mut [u8],
     first: &mut [i32],
     second: &mut [i32],
     rows: &mut [i32],
     res: &mut [i32],
-) -> bool {
+) -> io::Result<bool> {
     let mut w = [0u8; 4];
-    if io::read_full(0, &mut w) < 4 {
-        return false;
+    if streams::read_full(reader, &mut w)? < 4 {
+        return Ok(false);
     }
     let n = vectors::word(w) as usize;
     if input.len() < n {
-        return false;
+        return Ok(false);
     }
-    io::read_full(0, &mut input[0..n]);
-    run_case(number, &input[0..n], first, second, rows, res)
+    streams::read_full(reader, &mut input[0..n])?;
+    run_case(
+        reader,
+        writer,
+        number,
+        &input[0..n],
+        first,
+        second,
+        rows,
+        res,
+    )
 }
 
-fn read_lent() -> Lent {
+fn read_lent<R: Read>(reader: &mut R) -> io::Result<Lent> {
     let mut h = [0u8; 17];
-    io::read_full(0, &mut h);
-    Lent {
+    streams::read_full(reader, &mut h)?;
+    Ok(Lent {
         first: from_bytes(0, 0, h[0], h[1]),
         second: from_bytes(0, 0, h[2], h[3]),
         result: from_bytes(0, 0, h[4], h[5]),
@@ -69,7 +87,7 @@ fn read_lent() -> Lent {
         records: from_bytes(0, 0, h[10], h[11]),
         budget: from_bytes(h[12], h[13], h[14], h[15]),
         filler: vectors::signed_byte(h[16]),
-    }
+    })
 }
 
 fn from_bytes(a: u8, b: u8, c: u8, d: u8) -> usize {
@@ -77,29 +95,32 @@ fn from_bytes(a: u8, b: u8, c: u8, d: u8) -> usize {
 }
 
 // The roll is the method's own, of 256 records: no other case can be run. Nor can one that asks for more than there is.
-fn run_case(
+fn run_case<R: Read, W: Write>(
+    reader: &mut R,
+    writer: &mut W,
     number: usize,
     input: &[u8],
     first: &mut [i32],
     second: &mut [i32],
     rows: &mut [i32],
     res: &mut [i32],
-) -> bool {
-    let lent = read_lent();
+) -> io::Result<bool> {
+    let lent = read_lent(reader)?;
     let a = lent.first;
     let b = lent.second;
     let c = lent.rows;
     let d = lent.result;
     if lent.records != 256 {
-        return false;
+        return Ok(false);
     }
     if first.len() < a || second.len() < b {
-        return false;
+        return Ok(false);
     }
     if rows.len() < c || res.len() < d {
-        return false;
+        return Ok(false);
     }
     run_on(
+        writer,
         number,
         input,
         &mut first[0..a],
@@ -107,11 +128,12 @@ fn run_case(
         &mut rows[0..c],
         &mut res[0..d],
         lent,
-    );
-    true
+    )?;
+    Ok(true)
 }
 
-fn run_on(
+fn run_on<W: Write>(
+    writer: &mut W,
     number: usize,
     input: &[u8],
     first: &mut [i32],
@@ -119,11 +141,11 @@ fn run_on(
     rows: &mut [i32],
     res: &mut [i32],
     lent: Lent,
-) {
+) -> io::Result<()> {
     fill_all(first, second, rows, res, lent.filler);
     let a = zimbralosa::from_hex_here(input, first, second, rows, res, lent.budget);
-    print_answer(number, a);
-    print_all(first, second, rows, res);
+    print_answer(writer, number, a)?;
+    print_all(writer, first, second, rows, res)
 }
 
 fn fill_all(first: &mut [i32], second: &mut [i32], rows: &mut [i32], res: &mut [i32], x: i32) {
@@ -133,19 +155,25 @@ fn fill_all(first: &mut [i32], second: &mut [i32], rows: &mut [i32], res: &mut [
     vectors::fill(res, x);
 }
 
-fn print_answer(number: usize, a: Answer) {
+fn print_answer<W: Write>(writer: &mut W, number: usize, a: Answer) -> io::Result<()> {
     let outcome = a.outcome;
-    vectors::print_case(number, outcome.number());
-    vectors::print_count(b"states", a.states);
-    vectors::print_count(b"attempts", a.attempts);
-    vectors::print_count(b"formed", a.formed);
-    vectors::print_count(b"rows", a.rows);
-    io::write_all(1, b"\n");
+    vectors::print_case(writer, number, outcome.number())?;
+    vectors::print_count(writer, b"states", a.states)?;
+    vectors::print_count(writer, b"attempts", a.attempts)?;
+    vectors::print_count(writer, b"formed", a.formed)?;
+    vectors::print_count(writer, b"rows", a.rows)?;
+    writer.write_all(b"\n")
 }
 
-fn print_all(first: &[i32], second: &[i32], rows: &[i32], res: &[i32]) {
-    vectors::print_store(b"first", first);
-    vectors::print_store(b"second", second);
-    vectors::print_store(b"rows", rows);
-    vectors::print_store(b"result", res);
+fn print_all<W: Write>(
+    writer: &mut W,
+    first: &[i32],
+    second: &[i32],
+    rows: &[i32],
+    res: &[i32],
+) -> io::Result<()> {
+    vectors::print_store(writer, b"first", first)?;
+    vectors::print_store(writer, b"second", second)?;
+    vectors::print_store(writer, b"rows", rows)?;
+    vectors::print_store(writer, b"result", res)
 }

@@ -3,6 +3,9 @@
 
 ghost use Rattle.std.specs.Prelude.{ℕ, ◌≤◌, ◌<◌};
 
+use std::io;
+use std::io::Write;
+
 pub fn size(b: u8) -> usize
     ensures { result < 256 }
 {
@@ -47,44 +50,34 @@ pub fn fill(s: &mut [i32], x: i32) {
     }
 }
 
-fn print_run(count: usize, x: i32) {
-    io::write_all(1, b" ");
-    io::print_decimal(1, count as u64);
-    io::write_all(1, b"*");
-    if x < 0 {
-        io::write_all(1, b"-");
-    }
-    io::print_decimal(1, integers::magnitude(integers::wide(x)));
+fn print_run<W: Write>(writer: &mut W, count: usize, x: i32) -> io::Result<()> {
+    write!(writer, " {count}*{x}")
 }
 
 // Runs of equal numbers.
-pub fn print_store(word: &[u8], s: &[i32]) {
-    io::write_all(1, word);
+pub fn print_store<W: Write>(writer: &mut W, word: &[u8], s: &[i32]) -> io::Result<()> {
+    writer.write_all(word)?;
     let mut start: usize = 0;
     for i in 0..s.len() {
         if s[i] != s[start] {
-            print_run(i - start, s[start]);
+            print_run(writer, i - start, s[start])?;
             start = i;
         }
     }
     if start < s.len() {
-        print_run(s.len() - start, s[start]);
+        print_run(writer, s.len() - start, s[start])?;
     }
-    io::write_all(1, b"\n");
+    writer.write_all(b"\n")
 }
 
 // The word that a case begins with, and its number.
-pub fn print_case(number: usize, outcome: u8) {
-    io::write_all(1, b"case ");
-    io::print_decimal(1, number as u64);
-    io::write_all(1, b" outcome ");
-    io::print_decimal(1, outcome as u64);
+pub fn print_case<W: Write>(writer: &mut W, number: usize, outcome: u8) -> io::Result<()> {
+    write!(writer, "case {number} outcome {outcome}")
 }
 
 // A word, a blank before and behind it, and a number.
-pub fn print_count(word: &[u8], n: usize) {
-    io::write_all(1, b" ");
-    io::write_all(1, word);
-    io::write_all(1, b" ");
-    io::print_decimal(1, n as u64);
+pub fn print_count<W: Write>(writer: &mut W, word: &[u8], n: usize) -> io::Result<()> {
+    writer.write_all(b" ")?;
+    writer.write_all(word)?;
+    write!(writer, " {n}")
 }

@@ -1,5 +1,5 @@
 -- `vectors::fill` is safe and ends. Assumes nothing.
-use Prim.Native.Nat.{◌+◌, ◌-◌, ◌*◌, ◌≤◌, ◌<◌}
+use Prim.Native.Nat.{◌-◌, ◌≤◌}
 use borrow.Author.Rules.{rules}
 use lib.ListN.{length, length-set}
 use mathlib.Core.Path.{◌≡◌}
