@@ -6,7 +6,7 @@ use Prim.Native.Nat.{ℕ, zero, suc, ◌∣◌}
 use native.Mathlib.Nat.{suc-ne-zero, dvd_refl, dvd_trans, dvd-zero, one-dvd, dvd_antisymm, eq-zero_of_zero-dvd}
 use lib.IntN.{ℤ, pos, negsuc, nat_abs}
 use Rattle.integers.specs.Gcd.{gcd}
-use Rattle.integers.specs.Lists.{All, nil, cons, every}
+use Rattle.integers.specs.Lists.{All, nil, cons}
 use Rattle.integers.specs.Signs.{is_zero}
 use Rattle.integers.proofs.Tests.{not-both}
 use Rattle.integers.proofs.Lists.{all_head, all_tail, all_map}
@@ -36,7 +36,7 @@ is-zero (pos n) e = ap (λ (m : ℕ). is_zero (pos m)) e
 is-zero (negsuc n) e = absurd (suc-ne-zero n e)
 
 all_zero-of : (l : List ℤ) → All (λ z. 0 ∣ nat_abs z) l → all_zero l ≡ true
-unfolding all_zero every
+unfolding all_zero
 all_zero-of [] a = refl
 all_zero-of (z ∷ l) a = rw (is-zero z (eq-zero_of_zero-dvd (all_head a))) (all_zero-of l (all_tail a))
 

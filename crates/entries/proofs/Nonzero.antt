@@ -12,7 +12,7 @@ use Rattle.integers.proofs.Tests.{not-both}
 use Rattle.entries.specs.Entries.{at, all_zero, has_unit, first_nonzero}
 
 pub first-zero : (l : List ℤ) → is_zero (first_nonzero l) ≡ all_zero l
-unfolding first_nonzero all_zero every
+unfolding first_nonzero all_zero
 first-zero [] = refl
 first-zero (z ∷ l) = go (is_zero z) refl (first-zero l)
   where
@@ -21,7 +21,7 @@ first-zero (z ∷ l) = go (is_zero z) refl (first-zero l)
     go false e more = e
 
 unit_nonzero : (l : List ℤ) → has_unit l ≡ true → all_zero l ≡ false
-unfolding has_unit all_zero every
+unfolding has_unit all_zero
 unit_nonzero [] e = not-both e
 unit_nonzero (pos zero ∷ l) e = unit_nonzero l e
 unit_nonzero (pos (suc n) ∷ l) e = refl

@@ -15,36 +15,36 @@ use Rattle.integers.proofs.Lists.{all_head, all_tail, all_append}
 use Rattle.integers.proofs.Tests.{zero_of}
 use Rattle.rows.specs.declared.Row.{Row}
 use Rattle.rows.specs.Rows.{entry_count, with_entry}
-use Rattle.sets.specs.Outcomes.{found, and_then}
+use Rattle.sets.specs.Outcomes.{Ok, and_then}
 use Rattle.frames.specs.Hex.{digit, pair, bytes_of, byte, word, signed, Lines, lines, digit_of, digits_of, line_of, big_endian, pattern}
 use Rattle.frames.specs.Reading.{term_count, term_entry, term_coefficient, entries_of}
 use Rattle.frames.specs.Writing.{term_bytes, terms_of, term_number, flag_byte, row_bytes, row_lines}
 use Rattle.frames.proofs.Overwriting.{big_four}
 
 -- ---- digits and bytes
-digit_back : (n : ℕ) → n < 16 → digit (digit_of n) ≡ found n
+digit_back : (n : ℕ) → n < 16 → digit (digit_of n) ≡ Ok n
 unfolding digit
 digit_back n h = go (ltb n 10) refl
   where
-    low : n < 10 → digit (48 + n) ≡ found n
-    low k = rw (le-leb 48 (48 + n) (omega arith), le-leb (48 + n) 57 (omega arith)) (ap found (omega arith))
+    low : n < 10 → digit (48 + n) ≡ Ok n
+    low k = rw (le-leb 48 (48 + n) (omega arith), le-leb (48 + n) 57 (omega arith)) (ap Ok (omega arith))
 
-    high : 10 ≤ n → digit (55 + n) ≡ found n
+    high : 10 ≤ n → digit (55 + n) ≡ Ok n
     high k =
-        rw (le-leb 48 (55 + n) (omega arith), lt-leb (55 + n) 57 (omega arith), le-leb 65 (55 + n) (omega arith), le-leb (55 + n) 70 (omega arith)) (ap found (omega arith))
+        rw (le-leb 48 (55 + n) (omega arith), lt-leb (55 + n) 57 (omega arith), le-leb 65 (55 + n) (omega arith), le-leb (55 + n) 70 (omega arith)) (ap Ok (omega arith))
 
-    go : (b : Bool) → ltb n 10 ≡ b → digit (cond b (48 + n) (55 + n)) ≡ found n
+    go : (b : Bool) → ltb n 10 ≡ b → digit (cond b (48 + n) (55 + n)) ≡ Ok n
     go true e = low (ltb-true n 10 e)
     go false e = high (ltb-false n 10 e)
 
-pair_back : (b : ℕ) → b < 256 → pair (digit_of (b / 16)) (digit_of (b % 16)) ≡ found b
+pair_back : (b : ℕ) → b < 256 → pair (digit_of (b / 16)) (digit_of (b % 16)) ≡ Ok b
 unfolding pair and_then
-pair_back b h = rw (digit_back (b / 16) (omega arith), digit_back (b % 16) (omega arith)) (ap found (omega arith))
+pair_back b h = rw (digit_back (b / 16) (omega arith), digit_back (b % 16) (omega arith)) (ap Ok (omega arith))
 
 abbrev pub Byte : ℕ → Type 0
 Byte b = b < 256
 
-pub bytes_back : (bs : List ℕ) → All Byte bs → bytes_of (digits_of bs) ≡ found bs
+pub bytes_back : (bs : List ℕ) → All Byte bs → bytes_of (digits_of bs) ≡ Ok bs
 unfolding bytes_of digits_of and_then
 bytes_back [] a = refl
 bytes_back (b ∷ bs) a = rw (pair_back b (all_head a), bytes_back bs (all_tail a))
@@ -173,7 +173,7 @@ row-all-bytes r size =
     flag_small true = omega arith
     flag_small false = omega arith
 
-pub line_back : (r : Row) → length r.entries ≡ entry_count → bytes_of (digits_of (row_bytes r)) ≡ found (row_bytes r)
+pub line_back : (r : Row) → length r.entries ≡ entry_count → bytes_of (digits_of (row_bytes r)) ≡ Ok (row_bytes r)
 line_back r size = bytes_back (row_bytes r) (row-all-bytes r size)
 
 -- ---- the lines of a region: no digit is an LF, so the reader finds a line for each row, in order, and nothing behind the last

@@ -12,9 +12,8 @@ use Rattle.integers.specs.Lists.{All, from}
 use Rattle.integers.proofs.Lists.{all_tail}
 use Rattle.integers.proofs.Tests.{and_left, and_right, not-both, split}
 use Rattle.rows.specs.Rows.{set_rows}
-use Rattle.sets.specs.declared.Outcome.TheVariants.{Found, Refused}
+use Rattle.sets.specs.Outcomes.{Ok, Err, and_then}
 use Rattle.sets.specs.declared.Refusal.TheVariants.{NoFrame, Misplaced}
-use Rattle.sets.specs.Outcomes.{found, refused, and_then}
 use Rattle.sets.proofs.Results.{refused-not, found-same, then_found}
 use Rattle.models.specs.declared.Header.{Header}
 use Rattle.models.specs.declared.Transition.{Transition}
@@ -24,8 +23,9 @@ use Rattle.models.specs.Acceptance.{header_fits, reference_fits, transition_decl
 use Rattle.models.proofs.Setting.{length_from}
 use Rattle.models.specs.Automaton.{padded, reference_list, given_rows, given_transitions, given_reference}
 use Rattle.frames.specs.Hex.{bytes_of, word, signed, lines, line_of}
-use Rattle.frames.specs.Reading.{Seen, nothing, reference_table, progress_of, header_of, reference_of, transition_of, row_of, term_count, is_known, due_length, is_due, placed, passed, row_declared, terms_fit, with_header, with_reference, with_transition, with_row, header_frame, reference_frame, transition_frame, row_frame, content, frame, line, all_lines, tables, zero_transition, zero_row, is_complete, at_end, input_limit, read}
+use Rattle.frames.specs.Reading.{Seen, nothing, reference_table, progress_of, declared, header_of, reference_of, transition_of, row_of, term_count, is_known, due_length, is_due, passed, row_declared, terms_fit, with_header, with_reference, with_transition, with_row, header_frame, reference_frame, transition_frame, row_frame, content, frame, line, all_lines, tables, zero_transition, zero_row, is_complete, at_end, input_limit, read}
 use Rattle.frames.proofs.Taking.{table_list}
+use Rattle.frames.proofs.Placing.{or_left, declared-is, due-is, placed-is}
 use Rattle.frames.proofs.Reaching.{Few, few-frame, passed-found}
 use Rattle.frames.proofs.Back.{Byte}
 use Rattle.frames.proofs.Rewriting.{bytes-from, unlines, lines-whole, header_bytes, reference_bytes, transition_bytes, model_row_bytes, header-from, transition_from, reference-from, row_from}
@@ -84,7 +84,7 @@ fourth : (x y z u w : List ℕ) → x ++ (y ++ (z ++ (u ++ w))) ≡ (x ++ (y ++ 
 fourth x y z u w = rw (append_assoc x (y ++ (z ++ u)) w, append_assoc y (z ++ u) w, append_assoc z u w)
 
 module _ (s : Seen) (few : Few s) (o : Ordered s) (b : List ℕ) (bytes : All Byte b) (t : Seen) where
-  header-next : s.has_header ≡ false → length b ≡ 4 → header_frame s b ≡ found t → Next s t (1 ∷ b)
+  header-next : s.has_header ≡ false → length b ≡ 4 → header_frame s b ≡ Ok t → Next s t (1 ∷ b)
   unfolding header_frame seen_lines transition_lines model_row_lines
   header-next h size e =
       let p = passed-found (header_fits (header_of b)) (with_header s (header_of b)) t _ e in
@@ -103,7 +103,7 @@ module _ (s : Seen) (few : Few s) (o : Ordered s) (b : List ℕ) (bytes : All By
         };
       })
 
-  reference-next : s.has_header ≡ true → s.has_reference ≡ false → length b ≡ 4 + s.header.parameters * 4 → reference_frame s b ≡ found t → Next s t (2 ∷ b)
+  reference-next : s.has_header ≡ true → s.has_reference ≡ false → length b ≡ 4 + s.header.parameters * 4 → reference_frame s b ≡ Ok t → Next s t (2 ∷ b)
   unfolding reference_frame seen_lines transition_lines model_row_lines
   reference-next h r size e =
       let p = passed-found (reference_fits (reference_of s.header b)) (with_reference s (reference_of s.header b)) t _ e in
@@ -121,7 +121,7 @@ module _ (s : Seen) (few : Few s) (o : Ordered s) (b : List ℕ) (bytes : All By
         };
       })
 
-  transition_next : s.has_reference ≡ true → length s.transitions < s.header.transitions → length b ≡ 4 → transition_frame s b ≡ found t → Next s t (4 ∷ b)
+  transition_next : s.has_reference ≡ true → length s.transitions < s.header.transitions → length b ≡ 4 → transition_frame s b ≡ Ok t → Next s t (4 ∷ b)
   unfolding transition_frame seen_lines model_row_lines
   transition_next r h size e =
       let p = passed-found (transition_declared s.header (transition_of b)) (with_transition s (transition_of b)) t _ e in
@@ -155,10 +155,10 @@ module _ (s : Seen) (few : Few s) (o : Ordered s) (b : List ℕ) (bytes : All By
     };
   }
 
-  row_next : s.has_reference ≡ true → length s.transitions ≡ s.header.transitions → length b ≡ 4 + term_count b * 5 → row_frame s b ≡ found t → Next s t (3 ∷ b)
+  row_next : s.has_reference ≡ true → length s.transitions ≡ s.header.transitions → length b ≡ 4 + term_count b * 5 → row_frame s b ≡ Ok t → Next s t (3 ∷ b)
   unfolding row_frame
   row_next r h size e =
-      split (row_declared s.header b) _ _ (found t) e
+      split (row_declared s.header b) _ _ (Ok t) e
       (λ d e. let p = passed-found (terms_fit b) (with_row s (row_of b)) t _ e in rw (← p.1) (row-after r h (row_from s.header b few.sound bytes size d p.0)))
       (λ d e. refused-not e)
 
@@ -167,36 +167,36 @@ negated : (a : Bool) → not a ≡ true → a ≡ false
 negated true e = sym e
 negated false e = refl
 
-or_left : (a : Bool) → (a || false) ≡ true → a ≡ true
-or_left true e = refl
-or_left false e = e
-
 module _ (s : Seen) (few : Few s) (o : Ordered s) (b : List ℕ) (bytes : All Byte b) (t : Seen) where
-  by_kind : (kind : ℕ) → 1 ≤ kind → kind ≤ 4 → (s.has_header || eqb kind 1) ≡ true → length b ≡ due_length s.header kind (term_count b) → is_due (progress_of s) kind ≡ true →
-      content s kind b ≡ found t → Next s t (kind ∷ b)
-  unfolding due_length is_due content
+  by_kind : (kind : ℕ) → 1 ≤ kind → kind ≤ 4 → (s.has_header || eqb kind 1) ≡ true → length b ≡ due_length (declared (progress_of s)) kind (term_count b) → is_due (progress_of s) kind ≡ true →
+      content s kind b ≡ Ok t → Next s t (kind ∷ b)
+  unfolding due_length content
   by_kind zero low high h size due e = absurd (omega arith)
-  by_kind (suc zero) low high h size due e = header-next s few o b bytes t (negated s.has_header due) size e
-  by_kind (suc (suc zero)) low high h size due e = reference-next s few o b bytes t (or_left s.has_header h) (negated s.has_reference due) size e
+  by_kind (suc zero) low high h size due e = header-next s few o b bytes t (negated s.has_header (sym (due-is s 1) ∙ due)) size e
+  by_kind (suc (suc zero)) low high h size due e =
+      let k = or_left s.has_header h in
+      reference-next s few o b bytes t k (negated s.has_reference (sym (due-is s 2) ∙ due)) (rw (declared-is s k) at size) e
   by_kind (suc (suc (suc zero))) low high h size due e =
-      let rest = and_right s.has_reference _ due in
-      row_next s few o b bytes t (and_left s.has_reference _ due)
+      let d = rw (declared-is s (or_left s.has_header h)) at (sym (due-is s 3) ∙ due) in
+      let rest = and_right s.has_reference _ d in
+      row_next s few o b bytes t (and_left s.has_reference _ d)
       (eqb-true (length s.transitions) s.header.transitions (and_left (eqb (length s.transitions) s.header.transitions) _ rest)) size e
   by_kind (suc (suc (suc (suc zero)))) low high h size due e =
-      transition_next s few o b bytes t (and_left s.has_reference _ due) (ltb-true (length s.transitions) s.header.transitions (and_right s.has_reference _ due)) size e
+      let d = rw (declared-is s (or_left s.has_header h)) at (sym (due-is s 4) ∙ due) in
+      transition_next s few o b bytes t (and_left s.has_reference _ d) (ltb-true (length s.transitions) s.header.transitions (and_right s.has_reference _ d)) size e
   by_kind (suc (suc (suc (suc (suc n))))) low high h size due e = absurd (omega arith)
 
-frame-next : (s : Seen) (bs : List ℕ) (t : Seen) → Few s → Ordered s → All Byte bs → frame s bs ≡ found t → Next s t bs
-unfolding frame placed
+frame-next : (s : Seen) (bs : List ℕ) (t : Seen) → Few s → Ordered s → All Byte bs → frame s bs ≡ Ok t → Next s t bs
+unfolding frame
 frame-next s [] t f o a e = refused-not e
 frame-next s (kind ∷ b) t f o a e =
-    go (is_known kind) (s.has_header || eqb kind 1) (eqb (length b) (due_length s.header kind (term_count b))) (is_due (progress_of s) kind) refl refl refl refl e
+    go (is_known kind) (s.has_header || eqb kind 1) (eqb (length b) (due_length (declared (progress_of s)) kind (term_count b))) (is_due (progress_of s) kind) refl refl refl refl (rw placed-is at e)
   where
-    go : (x y z d : Bool) → is_known kind ≡ x → (s.has_header || eqb kind 1) ≡ y → eqb (length b) (due_length s.header kind (term_count b)) ≡ z → is_due (progress_of s) kind ≡ d →
-        passed (cond x (cond y (cond z (cond d Found (Refused Misplaced)) (Refused NoFrame)) (Refused Misplaced)) (Refused NoFrame)) (content s kind b) ≡ found t → Next s t (kind ∷ b)
+    go : (x y z d : Bool) → is_known kind ≡ x → (s.has_header || eqb kind 1) ≡ y → eqb (length b) (due_length (declared (progress_of s)) kind (term_count b)) ≡ z → is_due (progress_of s) kind ≡ d →
+        passed (cond x (cond y (cond z (cond d (Ok tt) (Err Misplaced)) (Err NoFrame)) (Err Misplaced)) (Err NoFrame)) (content s kind b) ≡ Ok t → Next s t (kind ∷ b)
     go true true true true k h l d e =
         by_kind s f o b (all_tail a) t kind (leb-true 1 kind (and_left (leb 1 kind) (leb kind 4) k)) (leb-true kind 4 (and_right (leb 1 kind) (leb kind 4) k)) h
-        (eqb-true (length b) (due_length s.header kind (term_count b)) l) d e
+        (eqb-true (length b) (due_length (declared (progress_of s)) kind (term_count b)) l) d e
     go true true true false k h l d e = refused-not e
     go true true false w k h l d e = refused-not e
     go true false z w k h l d e = refused-not e
@@ -209,7 +209,7 @@ record Lined (s t : Seen) (ls : List (List ℕ)) : Type 0 where
   ordered : Ordered t
 
 module _ (s : Seen) (f : Few s) (o : Ordered s) (l : List ℕ) where
-  line-next : (t : Seen) → line s l ≡ found t → Lined s t (l ∷ [])
+  line-next : (t : Seen) → line s l ≡ Ok t → Lined s t (l ∷ [])
   unfolding line unlines line_of
   line-next t e =
       let p = then_found (bytes_of l) (frame s) t e in
@@ -231,7 +231,7 @@ lines_join s t u l ls p q = record {
   ordered = q.ordered;
 }
 
-lines_next : (ls : List (List ℕ)) (s t : Seen) → Few s → Ordered s → all_lines s ls ≡ found t → Lined s t ls
+lines_next : (ls : List (List ℕ)) (s t : Seen) → Few s → Ordered s → all_lines s ls ≡ Ok t → Lined s t ls
 unfolding all_lines unlines
 lines_next [] s t f o e = rw (← found-same e) (record { written = sym (append-nil (seen_lines s)); few = f; ordered = o })
 lines_next (l ∷ ls) s t f o e =
@@ -266,7 +266,7 @@ tables_file s f o c =
 
 -- ---- the whole file
 few-none : Few nothing
-few-none = record { sound = record { clocks = omega arith; parameters = omega arith; transitions = omega arith }; transitions = omega arith; rows = omega arith }
+few-none = record { sound = record { clocks = omega arith; parameters = omega arith; transitions = omega arith }; transitions = omega arith; rows = omega arith; headed = λ (e : false ≡ true). not-both e }
 
 ordered-none : Ordered nothing
 ordered-none = record { headless = λ e. refl; no_transitions = λ e. refl; no_rows = λ e. refl; rows_last = λ e. refl; size = λ (e : false ≡ true). not-both e }
@@ -275,12 +275,12 @@ seen_none : seen_lines nothing ≡ []
 unfolding seen_lines transition_lines model_row_lines
 seen_none = refl
 
-at_end_file : (left : List ℕ) (s : Seen) (m : Model) → Few s → Ordered s → at_end left s ≡ found m → (left ≡ []) × (seen_lines s ≡ file_of m)
+at_end_file : (left : List ℕ) (s : Seen) (m : Model) → Few s → Ordered s → at_end left s ≡ Ok m → (left ≡ []) × (seen_lines s ≡ file_of m)
 at_end_file [] s m f o e = let p = passed-found (is_complete s) (tables s) m _ e in (refl, sym (tables_file s f o p.0) ∙ ap file_of p.1)
 at_end_file (c ∷ cs) s m f o e = refused-not e
 
 -- a file that gives these tables is the one that is written for them
-pub read_file : (input : List ℕ) (m : Model) → read input ≡ found m → input ≡ file_of m
+pub read_file : (input : List ℕ) (m : Model) → read input ≡ Ok m → input ≡ file_of m
 unfolding read
 read_file input m e =
     let p = taken_then (leb (length input) input_limit) e in
@@ -290,11 +290,11 @@ read_file input m e =
     let w : unlines (lines input).ended ≡ seen_lines q.mid = sym (n.written ∙ ap (λ (l : List ℕ). l ++ unlines (lines input).ended) seen_none) in
     sym (lines-whole input) ∙ ap (λ (l : List ℕ). unlines (lines input).ended ++ l) z.0 ∙ append-nil (unlines (lines input).ended) ∙ w ∙ z.1
   where
-    taken_then : (b : Bool) → cond b (and_then (all_lines nothing (lines input).ended) (at_end (lines input).left)) (refused NoFrame) ≡ found m →
-        and_then (all_lines nothing (lines input).ended) (at_end (lines input).left) ≡ found m
+    taken_then : (b : Bool) → cond b (and_then (all_lines nothing (lines input).ended) (at_end (lines input).left)) (Err NoFrame) ≡ Ok m →
+        and_then (all_lines nothing (lines input).ended) (at_end (lines input).left) ≡ Ok m
     taken_then true e = e
     taken_then false e = refused-not e
 
 -- a file that is accepted is determined by its tables
-pub determined : (a b : List ℕ) (m : Model) → read a ≡ found m → read b ≡ found m → a ≡ b
+pub determined : (a b : List ℕ) (m : Model) → read a ≡ Ok m → read b ≡ Ok m → a ≡ b
 determined a b m e f = read_file a m e ∙ sym (read_file b m f)

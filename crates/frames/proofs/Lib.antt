@@ -1,6 +1,7 @@
 pub mod Pairs
+pub mod Made
+pub mod Terms
 pub mod Decoding
-pub mod Counting
 pub mod Taking
 pub mod Placing
 pub mod Splitting

@@ -1,20 +1,21 @@
 -- The lines of the rows of a store, one after the other. Assumes nothing.
-use mathlib.Core.Path.{◌≡◌, refl, ap, ◌∙◌}
-use mathlib.Core.Bool.{true, false}
+use mathlib.Core.Path.{◌≡◌, refl, sym, ap, ◌∙◌}
 use mathlib.Core.List.{List, [], ◌∷◌, ◌++◌}
 use Prim.Native.Nat.{ℕ, zero, suc, ◌+◌, ◌-◌, ◌*◌, ◌≤◌, ◌<◌}
 use native.Mathlib.Omega.{arith}
 use borrow.Author.Tests.{le-leb, lt-leb}
-use lib.ListN.{length, length-append}
+use lib.ListN.{length, take, drop, length-append}
 use lib.IntN.{ℤ}
+use Rattle.std.specs.Prelude.{Some, None}
 use Rattle.rows.specs.declared.Row.{Row}
 use Rattle.rows.specs.Rows.{row_numbers, row_at}
 use Rattle.sets.specs.Stores.{rows_at}
-use Rattle.sets.specs.declared.Outcome.{Outcome}
-use Rattle.sets.specs.Outcomes.{outcome_number}
+use Rattle.sets.specs.Outcomes.{Outcome, outcome_number}
 use Rattle.frames.specs.Hex.{digits_of, line_of, big_endian}
-use Rattle.frames.specs.Writing.{Wrote, row_bytes, row_lines, count_bytes, answer_bytes, answer_lines, WrittenIs}
-use Rattle.frames.proofs.Overwriting.{digits_then}
+use Rattle.frames.specs.declared.answers.Out.{Out}
+use Rattle.frames.specs.Writing.{Room, Put, row_bytes, row_lines, answer_bytes, answer_lines, WrittenIs}
+use Rattle.std.specs.Int.{bytes_high_first}
+use Rattle.frames.proofs.Overwriting.{two_bytes, four_bytes}
 
 module _ (s : List ℤ) (n i : ℕ) where
   -- the rows from number i on
@@ -32,25 +33,22 @@ module _ (s : List ℤ) (n i : ℕ) where
   unfolding rows_at row_lines
   lines-done h = let a : n - i ≡ 0 = omega arith in rw a
 
-pub lines-all : (s : List ℤ) (n : ℕ) → row_lines (from_row s n 0) ≡ row_lines (rows_at s 0 n)
-lines-all s n = let a : n - 0 ≡ n = omega arith in rw a
-
 -- ---- the frame 05
-pub count_digits : (a b c : ℕ) → digits_of (count_bytes a b c) ≡ (digits_of (big_endian 2 a) ++ digits_of (big_endian 2 b)) ++ digits_of (big_endian 4 c)
-count_digits a b c = digits_then (big_endian 2 a ++ big_endian 2 b) (big_endian 4 c) ∙ ap (λ (t : List ℕ). t ++ digits_of (big_endian 4 c)) (digits_then (big_endian 2 a) (big_endian 2 b))
-
-pub counts-length : (a b c : ℕ) → length (digits_of (count_bytes a b c)) ≡ 16
-unfolding digits_of big_endian
-counts-length a b c = refl
-
 pub answer_digits : (o : Outcome) (a b c n : ℕ) → line_of (answer_bytes o a b c n) ≡
-    (((digits_of (5 ∷ []) ++ digits_of (outcome_number o ∷ [])) ++ digits_of (count_bytes a b c)) ++ digits_of (n ∷ [])) ++ (10 ∷ [])
+    digits_of (5 ∷ outcome_number o ∷ []) ++ (digits_of (big_endian 2 a) ++ (digits_of (big_endian 2 b) ++ (digits_of (big_endian 4 c) ++ (digits_of (n ∷ []) ++ (10 ∷ [])))))
 unfolding line_of answer_bytes digits_of big_endian
 answer_digits o a b c n = refl
 
 pub answer-length : (o : Outcome) (a b c n : ℕ) → length (line_of (answer_bytes o a b c n)) ≡ 23
 unfolding line_of answer_bytes digits_of big_endian
 answer-length o a b c n = refl
+
+-- the numbers' bytes as std has them
+pub low-two : (l : List ℕ) (m : ℕ) → l ≡ bytes_high_first 8 m → take 2 (drop 6 l) ≡ big_endian 2 m
+low-two l m e = rw e (sym (two_bytes m))
+
+pub low-four : (l : List ℕ) (m : ℕ) → l ≡ bytes_high_first 8 m → take 4 (drop 4 l) ≡ big_endian 4 m
+low-four l m e = rw e (sym (four_bytes m))
 
 pub rows-count : (s : List ℤ) (at n : ℕ) → length (rows_at s at n) ≡ n
 unfolding rows_at
@@ -66,13 +64,15 @@ module _ (o : Outcome) (a b c : ℕ) (s : List ℤ) (n : ℕ) where
   pub answer-long : length (answer_lines o a b c (rows_at s 0 n)) ≡ length (row_lines (rows_at s 0 n)) + 23
   answer-long = ap length answer-is ∙ (rw (length-append, answer-length o a b c n) (omega arith))
 
-pub no_room : (cs to : List ℕ) → length to < length cs → WrittenIs cs to to (record { count = 0; fits = false })
-no_room cs to h = let e = lt-leb (length cs) (length to) h in record { fits = rw e; count = rw e; store = rw e }
+pub no_room : (cs to : List ℕ) → length to < length cs → WrittenIs cs to to None
+no_room cs to h = let e = lt-leb (length cs) (length to) h in record { count = rw e; store = rw e }
 
-pub all-written : (cs to to' : List ℕ) (n : ℕ) → length cs ≤ length to → Wrote cs 0 to to' n → WrittenIs cs to to' (record { count = n; fits = true })
-all-written cs to to' n h w =
-    let e = le-leb (length cs) (length to) h in
-    record { fits = rw e; count = rw e (w.place ∙ zero-plus (length cs)); store = rw e w.store }
+pub all-written : (cs to to' : List ℕ) (o o' : Out) (n : ℕ) → o.at ≡ 0 → o.to.now ≡ to → Room cs o → Put cs o o' → n ≡ o'.at → to' ≡ o'.to.now → WrittenIs cs to to' (Some n)
+all-written cs to to' o o' n place store room p count left =
+    let w = rw (place, store) at p.wrote in
+    let h = rw (place, store) at room in
+    let e = le-leb (length cs) (length to) (omega (arith, h)) in
+    record { count = rw e (ap Some (count ∙ w.place ∙ zero-plus (length cs))); store = rw e (left ∙ w.store) }
   where
     zero-plus : (k : ℕ) → 0 + k ≡ k
     zero-plus k = omega arith

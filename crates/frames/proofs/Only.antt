@@ -3,15 +3,12 @@
 use mathlib.Core.Path.{◌≡◌, sym, ◌∙◌}
 use mathlib.Core.List.{List}
 use Prim.Native.Nat.{ℕ}
-use Rattle.frames.specs.declared.Written.{Written}
+use Rattle.std.specs.Prelude.{Option}
 use Rattle.frames.specs.Writing.{WrittenIs}
 
-module _ (cs to to₁ to₂ : List ℕ) (r₁ r₂ : Written) (h : WrittenIs cs to to₁ r₁) (k : WrittenIs cs to to₂ r₂) where
+module _ (cs to to₁ to₂ : List ℕ) (r₁ r₂ : Option ℕ) (h : WrittenIs cs to to₁ r₁) (k : WrittenIs cs to to₂ r₂) where
   pub only-written : r₁ ≡ r₂
-  only-written = same (h.fits ∙ sym k.fits) (h.count ∙ sym k.count)
-    where
-      same : r₁.fits ≡ r₂.fits → r₁.count ≡ r₂.count → r₁ ≡ r₂
-      same e f = rw (e, f)
+  only-written = h.count ∙ sym k.count
 
   pub only_store : to₁ ≡ to₂
   only_store = h.store ∙ sym k.store

@@ -16,7 +16,7 @@ use Rattle.integers.proofs.Loops.{drop-done}
 use Rattle.integers.proofs.Tests.{and_left, and_right, not-both}
 use Rattle.rows.specs.Rows.{with_entry}
 use Rattle.sets.specs.declared.Refusal.TheVariants.{NoFrame}
-use Rattle.sets.specs.Outcomes.{found, refused, and_then}
+use Rattle.sets.specs.Outcomes.{Ok, Err, and_then}
 use Rattle.sets.proofs.Results.{refused-not, found-same, then_found}
 use Rattle.models.specs.declared.Header.{Header}
 use Rattle.models.specs.declared.Transition.{Transition}
@@ -26,12 +26,12 @@ use Rattle.frames.specs.Hex.{digit, pair, bytes_of, byte, word, signed, with_fir
 use Rattle.frames.specs.Reading.{header_of, reference_of, transition_of, row_of, term_count, term_entry, term_coefficient, entries_of, row_declared, coefficient_fits, entries_rise, terms_fit}
 use Rattle.frames.specs.Steps.{Sound}
 use Rattle.frames.specs.Writing.{terms_of, term_number}
-use Rattle.frames.proofs.Counting.{counted-all}
+use Rattle.frames.proofs.Terms.{counted-all}
 use Rattle.frames.proofs.Taking.{entries_within}
 use Rattle.frames.proofs.Back.{Byte, put-entry}
 
 -- ---- digits and bytes: what was read as bytes is their digits
-digit-from : (c d : ℕ) → digit c ≡ found d → (digit_of d ≡ c) × (d < 16)
+digit-from : (c d : ℕ) → digit c ≡ Ok d → (digit_of d ≡ c) × (d < 16)
 unfolding digit
 digit-from c d e = go (leb 48 c && leb c 57) (leb 65 c && leb c 70) refl refl e
   where
@@ -41,7 +41,7 @@ digit-from c d e = go (leb 48 c && leb c 57) (leb 65 c && leb c 70) refl refl e
     high : 65 ≤ c → c ≤ 70 → c - 55 ≡ d → (digit_of d ≡ c) × (d < 16)
     high h k e = (rw (le-ltb d 10 (omega arith)) (omega arith), omega arith)
 
-    go : (a b : Bool) → (leb 48 c && leb c 57) ≡ a → (leb 65 c && leb c 70) ≡ b → cond a (found (c - 48)) (cond b (found (c - 55)) (refused NoFrame)) ≡ found d → (digit_of d ≡ c) × (d < 16)
+    go : (a b : Bool) → (leb 48 c && leb c 57) ≡ a → (leb 65 c && leb c 70) ≡ b → cond a (Ok (c - 48)) (cond b (Ok (c - 55)) (Err NoFrame)) ≡ Ok d → (digit_of d ≡ c) × (d < 16)
     go true b p q e = low (leb-true 48 c (and_left (leb 48 c) (leb c 57) p)) (leb-true c 57 (and_right (leb 48 c) (leb c 57) p)) (found-same e)
     go false true p q e = high (leb-true 65 c (and_left (leb 65 c) (leb c 70) q)) (leb-true c 70 (and_right (leb 65 c) (leb c 70) q)) (found-same e)
     go false false p q e = refused-not e
@@ -51,11 +51,11 @@ record PairIs (c d b : ℕ) : Type 0 where
   low : digit_of (b % 16) ≡ d
   small : Byte b
 
-pair-from : (c d b : ℕ) → pair c d ≡ found b → PairIs c d b
+pair-from : (c d b : ℕ) → pair c d ≡ Ok b → PairIs c d b
 unfolding pair
 pair-from c d b e =
-    let p = then_found (digit c) (λ high. and_then (digit d) (λ low. found (high * 16 + low))) b e in
-    let q = then_found (digit d) (λ low. found (p.mid * 16 + low)) b p.second in
+    let p = then_found (digit c) (λ high. and_then (digit d) (λ low. Ok (high * 16 + low))) b e in
+    let q = then_found (digit d) (λ low. Ok (p.mid * 16 + low)) b p.second in
     go p.mid q.mid (digit-from c p.mid p.first) (digit-from d q.mid q.first) (found-same q.second)
   where
     go : (x y : ℕ) → (digit_of x ≡ c) × (x < 16) → (digit_of y ≡ d) × (y < 16) → x * 16 + y ≡ b → PairIs c d b
@@ -67,13 +67,13 @@ pair-from c d b e =
         record { high = ap (λ (n : ℕ). digit_of n) u ∙ h.0; low = ap (λ (n : ℕ). digit_of n) v ∙ k.0; small = omega arith }
 
 -- a line that is read as bytes is the digits of these, and they are bytes
-pub bytes-from : (cs bs : List ℕ) → bytes_of cs ≡ found bs → (digits_of bs ≡ cs) × All Byte bs
+pub bytes-from : (cs bs : List ℕ) → bytes_of cs ≡ Ok bs → (digits_of bs ≡ cs) × All Byte bs
 unfolding bytes_of digits_of
 bytes-from [] bs e = rw (← found-same e) (refl, nil)
 bytes-from (c ∷ []) bs e = refused-not e
 bytes-from (c ∷ d ∷ cs) bs e =
-    let p = then_found (pair c d) (λ b. and_then (bytes_of cs) (λ bs. found (b ∷ bs))) bs e in
-    let q = then_found (bytes_of cs) (λ bs. found (p.mid ∷ bs)) bs p.second in
+    let p = then_found (pair c d) (λ b. and_then (bytes_of cs) (λ bs. Ok (b ∷ bs))) bs e in
+    let q = then_found (bytes_of cs) (λ bs. Ok (p.mid ∷ bs)) bs p.second in
     let h = pair-from c d p.mid p.first in
     let ih = bytes-from cs q.mid q.first in
     rw (← found-same q.second) (rw (h.high, h.low, ih.0) refl, cons h.small ih.1)

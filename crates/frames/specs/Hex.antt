@@ -1,27 +1,22 @@
 -- Lines of uppercase hexadecimal (rules, "The hex exchange"): digits, bytes, numbers, lines.
 use Rattle.std.specs.Prelude.{cond, ◌&&◌, List, [], ◌∷◌, ◌++◌, ℕ, zero, suc, ◌+◌, ◌-◌, ◌*◌, ◌/◌, ◌%◌, ◌^◌, leb, ltb, eqb, get_or, ℤ, pos, negsuc}
 use Rattle.sets.specs.declared.Refusal.TheVariants.{NoFrame}
-use Rattle.sets.specs.Outcomes.{Result, found, refused, and_then}
+use Rattle.sets.specs.Outcomes.{Result, Ok, Err, and_then}
 
 -- ---- reading
 -- 0 to 9 and A to F; any other character is foreign
 unfoldable pub digit : ℕ → Result ℕ
-digit c = cond (leb 48 c && leb c 57) (found (c - 48)) (cond (leb 65 c && leb c 70) (found (c - 55)) (refused NoFrame))
-
--- what was found, or another number
-abbrev pub number_or : ℕ → Result ℕ → ℕ
-number_or n (found v) = v
-number_or n (refused r) = n
+digit c = cond (leb 48 c && leb c 57) (Ok (c - 48)) (cond (leb 65 c && leb c 70) (Ok (c - 55)) (Err NoFrame))
 
 -- two digits of a byte
 unfoldable pub pair : ℕ → ℕ → Result ℕ
-pair c d = and_then (digit c) (λ high. and_then (digit d) (λ low. found (high * 16 + low)))
+pair c d = and_then (digit c) (λ high. and_then (digit d) (λ low. Ok (high * 16 + low)))
 
 -- two digits a byte; an odd digit is left over from no byte
 unfoldable pub bytes_of : List ℕ → Result (List ℕ)
-bytes_of [] = found []
-bytes_of (c ∷ []) = refused NoFrame
-bytes_of (c ∷ d ∷ cs) = and_then (pair c d) (λ b. and_then (bytes_of cs) (λ bs. found (b ∷ bs)))
+bytes_of [] = Ok []
+bytes_of (c ∷ []) = Err NoFrame
+bytes_of (c ∷ d ∷ cs) = and_then (pair c d) (λ b. and_then (bytes_of cs) (λ bs. Ok (b ∷ bs)))
 
 -- a byte of a frame; past its end, 0
 abbrev pub byte : List ℕ → ℕ → ℕ
@@ -54,9 +49,9 @@ lines (c ∷ cs) = let rest = lines cs in cond (eqb c 10) (new_line rest) (with_
 
 -- the bytes of the line at the front, up to its LF: what a line has been read as before it is known where it ends
 unfoldable pub first_bytes : List ℕ → Result (List ℕ)
-first_bytes [] = refused NoFrame
-first_bytes (c ∷ []) = cond (eqb c 10) (found []) (refused NoFrame)
-first_bytes (c ∷ d ∷ cs) = cond (eqb c 10) (found []) (and_then (pair c d) (λ b. and_then (first_bytes cs) (λ bs. found (b ∷ bs))))
+first_bytes [] = Err NoFrame
+first_bytes (c ∷ []) = cond (eqb c 10) (Ok []) (Err NoFrame)
+first_bytes (c ∷ d ∷ cs) = cond (eqb c 10) (Ok []) (and_then (pair c d) (λ b. and_then (first_bytes cs) (λ bs. Ok (b ∷ bs))))
 
 -- ---- writing
 -- n below 16 as a digit, a byte as two, bytes as a line

@@ -1,14 +1,13 @@
 -- A model read from its frames (rules, "The hex exchange" and "Numbers of the outcomes"): line by line, in a line 1 to 6 in order,
 -- missing frames at the end of input.
-use Rattle.std.specs.Prelude.{Bool, true, false, not, cond, ◌&&◌, ◌||◌, List, [], ◌∷◌, ◌++◌, map, ℕ, suc, ◌+◌, ◌-◌, ◌*◌, leb, ltb, eqb, length, drop, get_or, replicate, ℤ, pos, nat_abs}
+use Rattle.std.specs.Prelude.{Bool, true, false, not, cond, ◌&&◌, ◌||◌, List, [], ◌∷◌, ◌++◌, map, ℕ, suc, ◌+◌, ◌-◌, ◌*◌, leb, ltb, eqb, length, drop, get_or, replicate, ℤ, pos, nat_abs, Some, None, is_some, is_none}
+use Rattle.std.specs.Option.{unwrap_or}
 use Rattle.integers.specs.Limits.{given_limit}
 use Rattle.integers.specs.Lists.{every, from}
 use Rattle.integers.specs.Signs.{is_zero}
 use Rattle.rows.specs.Rows.{entry_count, set_rows, with_entry}
-use Rattle.sets.specs.declared.Outcome.{Outcome}
-use Rattle.sets.specs.declared.Outcome.TheVariants.{Found, Refused}
+use Rattle.sets.specs.Outcomes.{Outcome, Ok, Err, Result, and_then}
 use Rattle.sets.specs.declared.Refusal.TheVariants.{NoFrame, Misplaced, HeaderRange, ReferenceRange, Undeclared, WrongTerms}
-use Rattle.sets.specs.Outcomes.{Result, found, refused, and_then}
 use Rattle.models.specs.declared.Header.{Header}
 use Rattle.models.specs.declared.Transition.{Transition}
 use Rattle.models.specs.declared.ModelRow.{ModelRow}
@@ -45,13 +44,15 @@ reference_table l = record { denominator = get_or l 0 (pos 0); numerators = padd
 -- the same counted, as the code keeps it beside the tables
 abbrev pub progress_of : Seen → Progress
 progress_of s = record {
-  header = s.header;
-  reference = reference_table s.reference;
+  header = cond s.has_header (Some s.header) None;
+  reference = cond s.has_reference (Some (reference_table s.reference)) None;
   transitions = length s.transitions;
   rows = length s.rows;
-  headed = s.has_header;
-  referenced = s.has_reference;
 }
+
+-- the header; zeros before it was met
+abbrev pub declared : Progress → Header
+declared p = unwrap_or p.header nothing.header
 
 -- ---- the frames, their kind taken off
 abbrev pub header_of : List ℕ → Header
@@ -93,22 +94,22 @@ due_length h kind terms = cond (eqb kind 2) (4 + h.parameters * 4) (cond (eqb ki
 -- ---- 2: the kinds in their order 01, 02, 04, 03
 unfoldable pub is_due : Progress → ℕ → Bool
 is_due p kind =
-    cond (eqb kind 1) (not p.headed)
-    (cond (eqb kind 2) (not p.referenced)
-    (cond (eqb kind 4) (p.referenced && ltb p.transitions p.header.transitions)
-    (p.referenced && (eqb p.transitions p.header.transitions && ltb p.rows set_rows))))
+    cond (eqb kind 1) (is_none p.header)
+    (cond (eqb kind 2) (is_none p.reference)
+    (cond (eqb kind 4) (is_some p.reference && ltb p.transitions (declared p).transitions)
+    (is_some p.reference && (eqb p.transitions (declared p).transitions && ltb p.rows set_rows))))
 
 -- ---- the place of a frame with so many bytes behind its kind: 1, but that before the header a known kind other than 01 is 2 at any
 -- length; then 2
 unfoldable pub placed : Progress → ℕ → ℕ → ℕ → Outcome
 placed p kind count terms =
     cond (is_known kind)
-    (cond (p.headed || eqb kind 1)
-    (cond (eqb count (due_length p.header kind terms))
-    (cond (is_due p kind) Found (Refused Misplaced))
-    (Refused NoFrame))
-    (Refused Misplaced))
-    (Refused NoFrame)
+    (cond (is_some p.header || eqb kind 1)
+    (cond (eqb count (due_length (declared p) kind terms))
+    (cond (is_due p kind) (Ok tt) (Err Misplaced))
+    (Err NoFrame))
+    (Err Misplaced))
+    (Err NoFrame)
 
 -- ---- 5 and 6 of a row frame: all terms counted are looked at for 5 first
 unfoldable pub row_declared : Header → List ℕ → Bool
@@ -142,16 +143,16 @@ abbrev pub with_row : Seen → ModelRow → Seen
 with_row s r = record { has_header = s.has_header; header = s.header; has_reference = s.has_reference; reference = s.reference; transitions = s.transitions; rows = s.rows ++ (r ∷ []) }
 
 unfoldable pub header_frame : Seen → List ℕ → Result Seen
-header_frame s b = cond (header_fits (header_of b)) (found (with_header s (header_of b))) (refused HeaderRange)
+header_frame s b = cond (header_fits (header_of b)) (Ok (with_header s (header_of b))) (Err HeaderRange)
 
 unfoldable pub reference_frame : Seen → List ℕ → Result Seen
-reference_frame s b = cond (reference_fits (reference_of s.header b)) (found (with_reference s (reference_of s.header b))) (refused ReferenceRange)
+reference_frame s b = cond (reference_fits (reference_of s.header b)) (Ok (with_reference s (reference_of s.header b))) (Err ReferenceRange)
 
 unfoldable pub transition_frame : Seen → List ℕ → Result Seen
-transition_frame s b = cond (transition_declared s.header (transition_of b)) (found (with_transition s (transition_of b))) (refused Undeclared)
+transition_frame s b = cond (transition_declared s.header (transition_of b)) (Ok (with_transition s (transition_of b))) (Err Undeclared)
 
 unfoldable pub row_frame : Seen → List ℕ → Result Seen
-row_frame s b = cond (row_declared s.header b) (cond (terms_fit b) (found (with_row s (row_of b))) (refused WrongTerms)) (refused Undeclared)
+row_frame s b = cond (row_declared s.header b) (cond (terms_fit b) (Ok (with_row s (row_of b))) (Err WrongTerms)) (Err Undeclared)
 
 unfoldable pub content : Seen → ℕ → List ℕ → Result Seen
 content s kind b =
@@ -161,18 +162,18 @@ content s kind b =
 
 -- ---- a line: its place, then what it holds
 abbrev pub passed : {A : Type 0} → Outcome → Result A → Result A
-passed Found x = x
-passed (Refused q) x = refused q
+passed (Ok _) x = x
+passed (Err q) x = Err q
 
 unfoldable pub frame : Seen → List ℕ → Result Seen
-frame s [] = refused NoFrame
+frame s [] = Err NoFrame
 frame s (kind ∷ b) = passed (placed (progress_of s) kind (length b) (term_count b)) (content s kind b)
 
 unfoldable pub line : Seen → List ℕ → Result Seen
 line s cs = and_then (bytes_of cs) (frame s)
 
 unfoldable pub all_lines : Seen → List (List ℕ) → Result Seen
-all_lines s [] = found s
+all_lines s [] = Ok s
 all_lines s (l ∷ ls) = and_then (line s l) (λ t. all_lines t ls)
 
 -- ---- the tables: what was read, filled up with zeros
@@ -196,12 +197,12 @@ abbrev pub is_complete : Seen → Bool
 is_complete s = s.has_reference && eqb (length s.transitions) s.header.transitions
 
 abbrev pub at_end : List ℕ → Seen → Result Model
-at_end [] s = cond (is_complete s) (found (tables s)) (refused Misplaced)
-at_end (c ∷ cs) s = refused NoFrame
+at_end [] s = cond (is_complete s) (Ok (tables s)) (Err Misplaced)
+at_end (c ∷ cs) s = Err NoFrame
 
 -- the whole input counts before any line is looked at
 abbrev pub input_limit : ℕ
 input_limit = 65536
 
 unfoldable pub read : List ℕ → Result Model
-read input = cond (leb (length input) input_limit) (and_then (all_lines nothing (lines input).ended) (at_end (lines input).left)) (refused NoFrame)
+read input = cond (leb (length input) input_limit) (and_then (all_lines nothing (lines input).ended) (at_end (lines input).left)) (Err NoFrame)

@@ -1,10 +1,9 @@
 -- The answer written (rules, "The hex exchange"): the frame 05, then the region as frames 03 of kind 0.
-use Rattle.std.specs.Prelude.{Bool, cond, List, [], ◌∷◌, ◌++◌, ℕ, suc, ◌+◌, ◌≡◌, leb, length, take, drop, ℤ}
+use Rattle.std.specs.Prelude.{Bool, cond, List, [], ◌∷◌, ◌++◌, ℕ, suc, ◌+◌, ◌≤◌, ◌≡◌, leb, length, take, drop, ℤ, Option, Some, None}
 use Rattle.integers.specs.Signs.{is_zero}
 use Rattle.rows.specs.declared.Row.{Row}
-use Rattle.sets.specs.declared.Outcome.{Outcome}
-use Rattle.sets.specs.Outcomes.{outcome_number}
-use Rattle.frames.specs.declared.Written.{Written}
+use Rattle.sets.specs.Outcomes.{Outcome, outcome_number}
+use Rattle.frames.specs.declared.answers.Out.{Out}
 use Rattle.frames.specs.Hex.{line_of, big_endian, pattern}
 
 -- ---- characters in a lent store: from a place on, the rest as it was
@@ -16,6 +15,15 @@ pub record Wrote (cs : List ℕ) (at : ℕ) (to to' : List ℕ) (next : ℕ) : T
   pub place : next ≡ at + length cs
   pub long : length to' ≡ length to
   pub store : to' ≡ over cs at to
+
+-- ---- the same, of the store that the code writes to
+abbrev pub Room : List ℕ → Out → Type 0
+Room cs o = o.at + length cs ≤ length o.to.now
+
+-- it stays the caller's store
+pub record Put (cs : List ℕ) (o o' : Out) : Type 0 where
+  pub same : o'.to.ghost_name ≡ o.to.ghost_name
+  pub wrote : Wrote cs o.at o.to.now o'.to.now o'.at
 
 -- a term's bytes: its entry number and its coefficient; none where it is 0
 abbrev pub term_bytes : ℕ → ℤ → List ℕ
@@ -57,7 +65,6 @@ unfoldable pub answer_lines : Outcome → ℕ → ℕ → ℕ → List Row → L
 answer_lines outcome states attempts formed region = line_of (answer_bytes outcome states attempts formed (length region)) ++ row_lines region
 
 -- what the writer leaves: all of it from the front on, the rest as it was; or nothing where there is no room
-pub record WrittenIs (cs to to' : List ℕ) (r : Written) : Type 0 where
-  pub fits : r.fits ≡ leb (length cs) (length to)
-  pub count : r.count ≡ cond (leb (length cs) (length to)) (length cs) 0
+pub record WrittenIs (cs to to' : List ℕ) (r : Option ℕ) : Type 0 where
+  pub count : r ≡ cond (leb (length cs) (length to)) (Some (length cs)) None
   pub store : to' ≡ cond (leb (length cs) (length to)) (over cs 0 to) to

@@ -12,7 +12,7 @@ use Rattle.integers.proofs.Lists.{all_head}
 use Rattle.integers.proofs.Order.{read, le_as, lt_as}
 use Rattle.rows.specs.declared.Row.{Row}
 use Rattle.rows.specs.Rows.{with_entry, dot}
-use Rattle.sets.specs.declared.Outcome.TheVariants.{Found}
+use Rattle.sets.specs.Outcomes.{Ok}
 use Rattle.removal.specs.Exact.{Meets as MeetsC}
 use Rattle.models.specs.declared.Model.{Model}
 use Rattle.models.specs.Automaton.{Automaton, Edge, automaton, rows_of, reset_entries, edges_from}
@@ -36,7 +36,7 @@ m9 = toy 1 (pos 4 ∷ pos 2 ∷ pos 6 ∷ []) 2
 abbrev pub a9 : Automaton
 a9 = automaton m9
 
-is_found : (run 100000 m9 lent).ending.outcome ≡ Found
+is_found : (run 100000 m9 lent).ending.outcome ≡ Ok tt
 is_found = ap (λ (e : Ending). e.outcome) marked.m9
 
 shaped9 : Shaped a9

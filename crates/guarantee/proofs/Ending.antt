@@ -12,8 +12,7 @@ use Rattle.integers.proofs.Members.{in_none}
 use Rattle.integers.proofs.Whole.{zed}
 use Rattle.rows.specs.declared.Row.{Row}
 use Rattle.rows.specs.Rows.{at}
-use Rattle.sets.specs.declared.Outcome.TheVariants.{Found}
-use Rattle.sets.specs.Outcomes.{Result, found, refused}
+use Rattle.sets.specs.Outcomes.{Ok, Result, Err}
 use Rattle.sets.specs.Sets.{joined}
 use Rattle.sets.proofs.Joining.{joined_exact}
 use Rattle.removal.specs.Exact.{Meets}
@@ -58,7 +57,7 @@ ended a e x = record {
 
 -- ---- the exploration ends so, if it finds a region
 abbrev Ends : Automaton → Ending → Type 0
-Ends m x = x.outcome ≡ Found → Ended m x.region
+Ends m x = x.outcome ≡ Ok tt → Ended m x.region
 
 module _ (m : Automaton) (ok : Shaped m) (l : Limits) where
   by_turn : (budget : ℕ) (a : Attempt) (d : Due) (ds : List Due) → a.due ≡ d ∷ ds → Full m a → ((b : Attempt) → Full m b → Ends m (explored budget m l b)) →
@@ -110,13 +109,13 @@ module _ (m : Automaton) (ok : Shaped m) where
   start-ends budget l (halted r a) f = λ o. not_found o
 
   K-ends : (budget : ℕ) (l : Limits) (k : Result (List Row)) → joined first_rows [] ≡ k → Ends m (after_K budget m l k)
-  K-ends budget l (found K) e = start-ends budget l (begun m l (fresh K 0 0))
+  K-ends budget l (Ok K) e = start-ends budget l (begun m l (fresh K 0 0))
       (λ a f. begun_full m ok l K 0 0 a f
       (joined-names first_rows [] K e first-names nil)
       ((joined_exact (at_zero m.reference) (zero-point ok (reference-is ok)).positive first_rows [] K e).1 (first-reference, nil)))
-  K-ends budget l (refused r) e = λ o. not_found o
+  K-ends budget l (Err r) e = λ o. not_found o
 
-  pub method-ended : (budget : ℕ) (l : Limits) → (method budget l m).outcome ≡ Found → Ended m (method budget l m).region
+  pub method-ended : (budget : ℕ) (l : Limits) → (method budget l m).outcome ≡ Ok tt → Ended m (method budget l m).region
   unfolding method
   method-ended budget l = K-ends budget l (joined first_rows []) refl
 

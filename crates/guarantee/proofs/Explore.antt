@@ -12,7 +12,7 @@ use Rattle.integers.proofs.Whole.{zed}
 use Rattle.rows.specs.declared.Row.{Row}
 use Rattle.rows.specs.Rows.{Holds, negated}
 use Rattle.rows.proofs.Negating.{negated-holds, at-negated}
-use Rattle.sets.specs.Outcomes.{found}
+use Rattle.sets.specs.Outcomes.{Ok}
 use Rattle.sets.specs.Sets.{joined, any_false}
 use Rattle.sets.proofs.Joining.{joined_exact}
 use Rattle.sets.proofs.Tests.{any_false-never}
@@ -77,7 +77,7 @@ module _ (m : Automaton) (ok : Shaped m) where
 
   -- ---- a state is kept
   grow : {K : List Row} {states : List State} {region : List Row} {ds : List Due} (S : State) (sh region' : List Row) → Inv m K states region ds →
-      All (Names (8 + m.clocks)) S.rows → shadow m S.rows ≡ found sh → Meets (at_zero m.reference) sh → joined sh region ≡ found region' →
+      All (Names (8 + m.clocks)) S.rows → shadow m S.rows ≡ Ok sh → Meets (at_zero m.reference) sh → joined sh region ≡ Ok region' →
       Inv m K (states ++ (S ∷ [])) region' (ds ++ leaving S m.edges)
   grow {K} {states} {region} {ds} S sh region' v nm is-sh ref e = record {
     K_names = v.K_names;
@@ -103,12 +103,12 @@ module _ (m : Automaton) (ok : Shaped m) where
       fresh-due U t j s e = rw e (leaving_in S t m.edges (s ∙ ap (λ (x : State). x.location) e) j)
 
   -- ---- an attempt begins: the reference lies in the start state, and so in its shadow
-  module _ (K rows : List Row) (e : start m K ≡ found rows) (nk : All (Names 8) K) (rk : Meets (at_zero m.reference) K) where
+  module _ (K rows : List Row) (e : start m K ≡ Ok rows) (nk : All (Names 8) K) (rk : Meets (at_zero m.reference) K) where
     pub reference-start : Meets (waited (pos 1) (pos 0) (at_zero m.reference)) rows
     reference-start = start_forward m ok K rows e nk (at_zero m.reference) reference-point (zero_clocks ok (reference-is ok)) rk (reference-invariant ok)
         (pos 1) (pos 0) (omega zed) (omega zed) (still (at_zero m.reference) (reference-invariant ok))
 
-    pub reference-shadow : (sh : List Row) → shadow m rows ≡ found sh → Meets (at_zero m.reference) sh
+    pub reference-shadow : (sh : List Row) → shadow m rows ≡ Ok sh → Meets (at_zero m.reference) sh
     reference-shadow sh f =
         let z = at_zero m.reference in
         let hq = waited-point (pos 1) (pos 0) z reference-point (omega zed) in
@@ -139,7 +139,7 @@ module _ (m : Automaton) (ok : Shaped m) where
     done-with : Handled m a.K a.states d.state d.by → a ≡ b → Full m b
     done-with h e = subst (λ (c : Attempt). Full m c) e (record { inv = settle_one v h; has_start = st })
 
-    module _ (rows sh : List Row) (e₁ : successor m d.state.rows d.by ≡ found rows) (e₂ : shadow m rows ≡ found sh) where
+    module _ (rows sh : List Row) (e₁ : successor m d.state.rows d.by ≡ Ok rows) (e₂ : shadow m rows ≡ Ok sh) where
       abbrev S : State
       S = record { location = d.by.target; rows = rows }
 
@@ -171,7 +171,7 @@ module _ (m : Automaton) (ok : Shaped m) where
           })
 
       -- a new attempt: the negation of a row that the reference breaks holds at the reference
-      refined_full : (r : Row) (K : List Row) → Names 8 r → ¬ Holds (at_zero m.reference) r → joined (negated r ∷ []) a.K ≡ found K →
+      refined_full : (r : Row) (K : List Row) → Names 8 r → ¬ Holds (at_zero m.reference) r → joined (negated r ∷ []) a.K ≡ Ok K →
           begun m l (fresh K (suc a.attempts) a.formed) ≡ on b → Full m b
       refined_full r K nr br e f =
           begun_full l K (suc a.attempts) a.formed b f

@@ -7,7 +7,7 @@ use Prim.Native.Nat.{◌+◌}
 use lib.IntN.{ℤ}
 use Rattle.integers.specs.Lists.{All, In}
 use Rattle.rows.specs.declared.Row.{Row}
-use Rattle.sets.specs.Outcomes.{found}
+use Rattle.sets.specs.Outcomes.{Ok}
 use Rattle.removal.specs.Exact.{Point, Meets}
 use Rattle.models.specs.Automaton.{Automaton, Edge}
 use Rattle.models.specs.Runs.{Event, event}
@@ -18,20 +18,20 @@ use Rattle.method.specs.Method.{State, start, successor, shadow}
 pub record Standing (m : Automaton) (region : List Row) (S : State) : Type 0 where
   pub named : All (Names (8 + m.clocks)) S.rows
   pub sh : List Row
-  pub is_shadow : shadow m S.rows ≡ found sh
+  pub is_shadow : shadow m S.rows ≡ Ok sh
   pub within : (p : List ℤ) → Point 16 p → Meets p region → Meets p sh
 
 -- a transition from a kept state: its successor has no point that meets K, or is a kept state
 pub record Handled (m : Automaton) (K : List Row) (states : List State) (S : State) (t : Edge) : Type 0 where
   pub rows : List Row
-  pub is_successor : successor m S.rows t ≡ found rows
+  pub is_successor : successor m S.rows t ≡ Ok rows
   pub verdict : ((q : List ℤ) → Point 16 q → Meets q K → ¬ Meets q rows) ⊎ In (record { location = t.target; rows = rows }) states
 
 -- the start state is kept
 pub record Begun (m : Automaton) (K : List Row) (states : List State) : Type 0 where
   pub state : State
   pub location : state.location ≡ 0
-  pub is_start : start m K ≡ found state.rows
+  pub is_start : start m K ≡ Ok state.rows
   pub is_in : In state states
 
 pub record Graph (m : Automaton) (K : List Row) (states : List State) (region : List Row) : Type 0 where
@@ -42,9 +42,9 @@ pub record Graph (m : Automaton) (K : List Row) (states : List State) (region : 
 
 -- ---- a path of kept states, and the trace along it
 pub data Path (m : Automaton) (K : List Row) (states : List State) : List Event → State → Type 0 where
-  begin : (S : State) → S.location ≡ 0 → start m K ≡ found S.rows → In S states → Path m K states [] S
+  begin : (S : State) → S.location ≡ 0 → start m K ≡ Ok S.rows → In S states → Path m K states [] S
   onward : {tr : List Event} {S : State} → Path m K states tr S → (t : Edge) → In t m.edges → t.source ≡ S.location →
-      (S' : State) → S'.location ≡ t.target → successor m S.rows t ≡ found S'.rows → In S' states → Path m K states (tr ++ (event t ∷ [])) S'
+      (S' : State) → S'.location ≡ t.target → successor m S.rows t ≡ Ok S'.rows → In S' states → Path m K states (tr ++ (event t ∷ [])) S'
 
 pub path_in : {m : Automaton} {K : List Row} {states : List State} {tr : List Event} {S : State} → Path m K states tr S → In S states
 path_in (begin S l e i) = i

@@ -10,7 +10,7 @@ use Rattle.integers.proofs.Tests.{false_of, or_true}
 use Rattle.integers.proofs.Lists.{all_map}
 use Rattle.integers.proofs.Whole.{zed}
 use Rattle.rows.specs.declared.Row.{Row}
-use Rattle.sets.specs.Outcomes.{found}
+use Rattle.sets.specs.Outcomes.{Ok}
 use Rattle.sets.specs.Sets.{any_false}
 use Rattle.sets.proofs.Tests.{any_false-never}
 use Rattle.removal.specs.Exact.{Point, Meets}
@@ -24,7 +24,7 @@ use Rattle.guarantee.proofs.Moves.{shadow-of}
 use Rattle.guarantee.proofs.Explore.{reference-start, reference-shadow}
 
 -- of every K that an attempt can have: it names parameters only and holds at the reference
-pub start_likewise : (m : Automaton) (ok : Shaped m) (l : Limits) (K rows sh : List Row) (n f : ℕ) → All (Names 8) K → Meets (at_zero m.reference) K → start m K ≡ found rows → shadow m rows ≡ found sh →
+pub start_likewise : (m : Automaton) (ok : Shaped m) (l : Limits) (K rows sh : List Row) (n f : ℕ) → All (Names 8) K → Meets (at_zero m.reference) K → start m K ≡ Ok rows → shadow m rows ≡ Ok sh →
     judged m l (fresh K n f) (record { location = 0; rows = rows }) sh ≡ keep_state m l (fresh K n f) (record { location = 0; rows = rows }) sh
 unfolding judged judged_broken judged_whole known
 start_likewise m ok l K rows sh n f nk rk e₁ e₂ =

@@ -1,7 +1,7 @@
 -- The marked examples hold: every one by computation. Assumes nothing.
 use mathlib.Core.Path.{refl}
 use Rattle.integers.specs.Gcd.{gcd}
-use Rattle.integers.specs.Lists.{every, filter, pairs}
+use Rattle.integers.specs.Lists.{filter, pairs}
 use Rattle.rows.specs.Rows.{with_entry, dot, divisor, divided, all_small, all_zero, limited, constant, divided_down, plus, times, entry_order, row_order}
 use Rattle.sets.specs.Outcomes.{and_then}
 use Rattle.sets.specs.Sets.{insert, joined_all, within_limit, joined, same_row, stands_in, same_rows}
@@ -16,7 +16,7 @@ use Rattle.method.specs.Entry.{run, run_hex}
 use Rattle.guarantee.specs.Marked.{Marked}
 
 pub marked : Marked
-unfolding gcd every filter pairs with_entry dot divisor divided all_small all_zero limited constant divided_down plus times entry_order row_order and_then insert joined_all within_limit joined same_row stands_in same_rows untouched uppers lowers remaining removed all_removed automaton padded rows_of reset_entries edges_from accepted header_fits reference_fits transition_declared owner_declared entry_declared entries_declared row_declared terms_fit rows_accepted reference_meets reference_accepted not_below_zero equal_zero sum shifted passed stayed start successor shadow broken any_negation same_state known leaving or_halt keep_state begun judged_whole refined judged_broken judged advanced explored method run digit pair bytes_of word lines digits_of line_of big_endian entries_of due_length is_due placed frame-declared entries_rise frame-terms-fit header_frame reference_frame transition_frame row_frame content frame line all_lines tables read terms_of term_number row_bytes row_lines answer_bytes answer_lines run_hex
+unfolding gcd filter pairs with_entry dot divisor divided all_small all_zero limited constant divided_down plus times entry_order row_order and_then insert joined_all within_limit joined same_row stands_in same_rows untouched uppers lowers remaining removed all_removed automaton padded rows_of reset_entries edges_from accepted header_fits reference_fits transition_declared owner_declared entry_declared entries_declared row_declared terms_fit rows_accepted reference_meets reference_accepted not_below_zero equal_zero sum shifted passed stayed start successor shadow broken any_negation same_state known leaving or_halt keep_state begun judged_whole refined judged_broken judged advanced explored method run digit pair bytes_of word lines digits_of line_of big_endian entries_of due_length is_due placed frame-declared entries_rise frame-terms-fit header_frame reference_frame transition_frame row_frame content frame line all_lines tables read terms_of term_number row_bytes row_lines answer_bytes answer_lines run_hex
 marked = record {
   m1 = refl;
   m6 = refl;

@@ -10,7 +10,7 @@ use Rattle.integers.specs.Lists.{All, In}
 use Rattle.integers.proofs.Lists.{all_map, all_in}
 use Rattle.rows.specs.declared.Row.{Row}
 use Rattle.rows.specs.Rows.{at}
-use Rattle.sets.specs.Outcomes.{found}
+use Rattle.sets.specs.Outcomes.{Ok}
 use Rattle.sets.proofs.Joining.{joined_exact}
 use Rattle.removal.specs.Exact.{Point, Meets, SameBut, Values}
 use Rattle.removal.proofs.Points.{same_refl}
@@ -42,16 +42,16 @@ module _ (m : Automaton) (ok : Shaped m) where
   room = let few = ok.few_clocks in omega arith
 
   -- ---- a shadow
-  pub shadow_exact : (s sh : List Row) → shadow m s ≡ found sh → (p : List ℤ) → Point 16 p → Meets p sh ↔ Values s 16 (clock_entries m) p
+  pub shadow_exact : (s sh : List Row) → shadow m s ≡ Ok sh → (p : List ℤ) → Point 16 p → Meets p sh ↔ Values s 16 (clock_entries m) p
   unfolding shadow
   shadow_exact s sh e p hp = all_removed_exact (clock_entries m) s sh e 16 p hp (clocks_ok (let r = room in omega arith) (clocks-within m))
 
   -- a point of a state is one of its shadow
-  pub shadow-of : (s sh : List Row) → shadow m s ≡ found sh → (p : List ℤ) → Point 16 p → Meets p s → Meets p sh
+  pub shadow-of : (s sh : List Row) → shadow m s ≡ Ok sh → (p : List ℤ) → Point 16 p → Meets p s → Meets p sh
   shadow-of s sh e p hp a = (shadow_exact s sh e p hp).1 (record { point = p; is_point = hp; same_but = same_refl (clock_entries m) p; holds = a })
 
   -- ---- the start state
-  module _ (K out : List Row) (e : start m K ≡ found out) (nk : All (Names 8) K) where
+  module _ (K out : List Row) (e : start m K ≡ Ok out) (nk : All (Names 8) K) where
     abbrev st : Starting m K out
     st = starting m K out e
 
@@ -75,7 +75,7 @@ module _ (m : Automaton) (ok : Shaped m) where
         record { entered = n; zeros = (equal_zero_exact (clock_entries m) p).0 b.0; before = b.1 }
 
   -- ---- a successor
-  module _ (s : List Row) (t : Edge) (it : In t m.edges) (out : List Row) (e : successor m s t ≡ found out) (ns : All (Names (8 + m.clocks)) s) where
+  module _ (s : List Row) (t : Edge) (it : In t m.edges) (out : List Row) (e : successor m s t ≡ Ok out) (ns : All (Names (8 + m.clocks)) s) where
     abbrev sg : Stages m s t out
     sg = stages m s t out e
 

@@ -12,7 +12,7 @@ use Rattle.integers.proofs.Lists.{all_in}
 use Rattle.integers.proofs.Whole.{zed, of-pos, pos_of, pos-*}
 use Rattle.rows.specs.declared.Row.{Row}
 use Rattle.rows.specs.Rows.{at}
-use Rattle.sets.specs.Outcomes.{found}
+use Rattle.sets.specs.Outcomes.{Ok}
 use Rattle.removal.specs.Exact.{Point, Meets, Values}
 use Rattle.models.specs.Automaton.{Automaton, Edge, clock_entries}
 use Rattle.models.specs.Runs.{Event, event}
@@ -147,7 +147,7 @@ module _ (m : Automaton) (ok : Shaped m) (K : List Row) (states : List State) (r
     close = catch_up n.k n.x p w a;
   }
 
-  back_start : (S : State) → start m K ≡ found S.rows → (w : List ℤ) → Point 16 w → Agree 8 (at_zero s) w → Meets w S.rows → Ran [] 0 w
+  back_start : (S : State) → start m K ≡ Ok S.rows → (w : List ℤ) → Point 16 w → Agree 8 (at_zero s) w → Meets w S.rows → Ran [] 0 w
   back_start S e w hw a h = ran w (at_zero s) n hw hz (begins (agree_meets hz hp close (ok.invariants 0) n.arrived)) close
     where
       c : Began m ok K S.rows e g.K_names w
@@ -174,7 +174,7 @@ module _ (m : Automaton) (ok : Shaped m) (K : List Row) (states : List State) (r
       close : Agree (8 + m.clocks) (at_zero s) p
       close = record { same = λ i b. by i b (dec_le i 8) }
 
-  back_step : {tr : List Event} {S : State} (t : Edge) → t.source ≡ S.location → (out : List Row) → (e : successor m S.rows t ≡ found out) → (ns : All (Names (8 + m.clocks)) S.rows) →
+  back_step : {tr : List Event} {S : State} (t : Edge) → t.source ≡ S.location → (out : List Row) → (e : successor m S.rows t ≡ Ok out) → (ns : All (Names (8 + m.clocks)) S.rows) →
       (it : In t m.edges) (w : List ℤ) → Point 16 w → (c : Came m ok S.rows t it out e ns w) → Ran tr S.location c.from_point → Ran (tr ++ (event t ∷ [])) t.target w
   back_step {tr} {S} t src out e ns it w hw c x = ran w q n hw hq run close
     where

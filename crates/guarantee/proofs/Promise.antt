@@ -5,7 +5,7 @@ use mathlib.Core.Logic.Iff
 use mathlib.Core.List.{List, []}
 use Prim.Native.Nat.{ℕ}
 use Rattle.rows.specs.declared.Row.{Row}
-use Rattle.sets.specs.declared.Outcome.TheVariants.{Found}
+use Rattle.sets.specs.Outcomes.{Ok}
 use Rattle.models.specs.declared.Model.{Model}
 use Rattle.models.specs.Automaton.{Automaton, automaton}
 use Rattle.models.specs.Runs.{Trace, reference_setting}
@@ -40,12 +40,12 @@ module _ (a : Automaton) (ok : Shaped a) where
       (record { location = 0; point = _; run = begins (reference-invariant ok) })
 
 -- ---- of a run that found a region
-module _ (budget : ℕ) (m : Model) (s : Stores) (o : (run budget m s).ending.outcome ≡ Found) where
+module _ (budget : ℕ) (m : Model) (s : Stores) (o : (run budget m s).ending.outcome ≡ Ok tt) where
   pub run_shaped : Shaped (automaton m)
   run_shaped = shaped m (ran budget m s o).is_accepted
 
   run-ended : Ended (automaton m) (run budget m s).ending.region
-  run-ended = subst (λ (e : Ending). e.outcome ≡ Found → Ended (automaton m) e.region) (sym (ran budget m s o).is_ending) (method-ended (automaton m) run_shaped budget (limits s)) o
+  run-ended = subst (λ (e : Ending). e.outcome ≡ Ok tt → Ended (automaton m) e.region) (sym (ran budget m s o).is_ending) (method-ended (automaton m) run_shaped budget (limits s)) o
 
 pub demand_3 : Demand3
 demand_3 budget m s o = guaranteed (automaton m) (run_shaped budget m s o) (run budget m s).ending.region (run-ended budget m s o)
@@ -56,7 +56,7 @@ demand_3_hex budget input s o =
     record {
       model = x.model;
       is_read = x.is_read;
-      guarantee = subst (λ (r : Run). r.ending.outcome ≡ Found → Guarantee (automaton x.model) r.ending.region) (sym x.same) (demand_3 budget x.model s) o;
+      guarantee = subst (λ (r : Run). r.ending.outcome ≡ Ok tt → Guarantee (automaton x.model) r.ending.region) (sym x.same) (demand_3 budget x.model s) o;
     }
 
 pub region_formed : RegionFormed

@@ -2,8 +2,7 @@
 use mathlib.Core.Path.{◌≡◌, refl, sym, ap, subst, ◌∙◌}
 use mathlib.Core.Bool.{Bool, true, false, cond}
 use Prim.Native.Nat.{ℕ}
-use Rattle.sets.specs.declared.Outcome.{Outcome}
-use Rattle.sets.specs.declared.Outcome.TheVariants.{Found, Refused}
+use Rattle.sets.specs.Outcomes.{Outcome, Ok, Err}
 use Rattle.sets.specs.declared.Refusal.TheVariants.{ShortStore}
 use Rattle.sets.specs.Stores.{with_rows}
 use Rattle.models.specs.declared.Model.{Model}
@@ -16,20 +15,20 @@ use Rattle.guarantee.specs.Returned.{TablesReturned, HexesReturned}
 use Rattle.guarantee.proofs.Promise.{demand_3}
 
 -- a run that found a region leaves it at the front of the result store
-result-is : (budget : ℕ) (m : Model) (s : Stores) → (run budget m s).ending.outcome ≡ Found → (run budget m s).stores.result ≡ with_rows (run budget m s).ending.region s.result
+result-is : (budget : ℕ) (m : Model) (s : Stores) → (run budget m s).ending.outcome ≡ Ok tt → (run budget m s).stores.result ≡ with_rows (run budget m s).ending.region s.result
 unfolding run
 result-is budget m s e = go (short s) (accepted m) e
   where
-    go : (b : Bool) (o : Outcome) → (cond b (refused_at_entry ShortStore s) (run_accepted budget m s o)).ending.outcome ≡ Found →
+    go : (b : Bool) (o : Outcome) → (cond b (refused_at_entry ShortStore s) (run_accepted budget m s o)).ending.outcome ≡ Ok tt →
         (cond b (refused_at_entry ShortStore s) (run_accepted budget m s o)).stores.result ≡ with_rows (cond b (refused_at_entry ShortStore s) (run_accepted budget m s o)).ending.region s.result
     go true o e = not_found e
-    go false Found e = refl
-    go false (Refused r) e = not_found e
+    go false (Ok _) e = refl
+    go false (Err r) e = not_found e
 
 pub tables-returned : TablesReturned
 tables-returned budget m first second rows result roll a b s q l r h o =
     let st = lent first second rows result roll in
-    let f : (run budget m st).ending.outcome ≡ Found = sym (ap (λ (z : Answer). z.outcome) h.answer) ∙ o in
+    let f : (run budget m st).ending.outcome ≡ Ok tt = sym (ap (λ (z : Answer). z.outcome) h.answer) ∙ o in
     record {
       region = (run budget m st).ending.region;
       stands = h.result ∙ result-is budget m st f;

@@ -13,7 +13,7 @@ use Rattle.rows.specs.declared.Row.{Row}
 use Rattle.rows.specs.Rows.{delay_entry, single}
 use Rattle.entries.proofs.Sums.{at-with_other}
 use Rattle.rows.proofs.Dividing.{Blind, single_blind}
-use Rattle.sets.specs.Outcomes.{found}
+use Rattle.sets.specs.Outcomes.{Ok}
 use Rattle.sets.specs.Sets.{joined}
 use Rattle.sets.proofs.Joining.{joined_blind}
 use Rattle.removal.specs.Removal.{removed}
@@ -40,14 +40,14 @@ unfolding shifted
 shifted_blind u h s a = (all_mapped shifted s).1 (all_map (λ r e. at-with_other delay_entry u _ r.entries h ∙ e) a)
 
 -- ---- one variable: time, which names the delay only in between
-passed_blind : (u : ℕ) → 0 < u → (s t : List Row) → passed s ≡ found t → All (Blind u) s → All (Blind u) t
+passed_blind : (u : ℕ) → 0 < u → (s t : List Row) → passed s ≡ Ok t → All (Blind u) s → All (Blind u) t
 passed_blind u h s t e a = let x = passing s t e in go (ℕ_discrete u delay_entry) x.delayed x.is_delayed x.is_out
   where
-    go : Dec (u ≡ delay_entry) → (d : List Row) → joined (single delay_entry (negsuc 0) ∷ map shifted s) [] ≡ found d → removed delay_entry d ≡ found t → All (Blind u) t
+    go : Dec (u ≡ delay_entry) → (d : List Row) → joined (single delay_entry (negsuc 0) ∷ map shifted s) [] ≡ Ok d → removed delay_entry d ≡ Ok t → All (Blind u) t
     go (yes f) d i o = rw f (removed_self delay_entry (omega arith) d t o)
     go (no f) d i o = removed_other u h delay_entry d t o (joined_blind u h _ [] d i (cons (single_blind u delay_entry (negsuc 0) f) (shifted_blind u f s a)) nil)
 
-stayed_blind : (u : ℕ) → 0 < u → (inv s t : List Row) → stayed inv s ≡ found t → All (Blind u) inv → All (Blind u) s → All (Blind u) t
+stayed_blind : (u : ℕ) → 0 < u → (inv s t : List Row) → stayed inv s ≡ Ok t → All (Blind u) inv → All (Blind u) s → All (Blind u) t
 stayed_blind u h inv s t e i a =
     let x = staying inv s t e in
     joined_blind u h inv x.waited t x.is_out i (passed_blind u h x.arrived x.waited x.is_waited (joined_blind u h inv s x.arrived x.is_arrived i a))
@@ -63,10 +63,10 @@ names_blind a u h = all_map (λ r f. f u h) a
 pub names_more : {n k : ℕ} {l : List Row} → n ≤ k → All (Names n) l → All (Names k) l
 names_more h a = all_map (λ r f i l. f i (omega arith)) a
 
-pub joined-names : {n : ℕ} (rs s t : List Row) → joined rs s ≡ found t → All (Names n) rs → All (Names n) s → All (Names n) t
+pub joined-names : {n : ℕ} (rs s t : List Row) → joined rs s ≡ Ok t → All (Names n) rs → All (Names n) s → All (Names n) t
 joined-names {n} rs s t e a b = all-names n t (λ u h. joined_blind u (omega arith) rs s t e (names_blind a u h) (names_blind b u h))
 
-stayed-names : {n : ℕ} (inv s t : List Row) → stayed inv s ≡ found t → All (Names n) inv → All (Names n) s → All (Names n) t
+stayed-names : {n : ℕ} (inv s t : List Row) → stayed inv s ≡ Ok t → All (Names n) inv → All (Names n) s → All (Names n) t
 stayed-names {n} inv s t e i a = all-names n t (λ u h. stayed_blind u (omega arith) inv s t e (names_blind i u h) (names_blind a u h))
 
 equal_zero-names : {n : ℕ} (vs : List ℕ) → All (λ v. v ≤ n) vs → All (Names n) (equal_zero vs)
@@ -85,7 +85,7 @@ clocks-within m = all_map (λ c h. within c h.0 h.1) (from-within 9 m.clocks)
 -- ---- the states of an automaton
 module _ (m : Automaton) (ok : Shaped m) where
   -- the start state, and what it is formed from
-  module _ (K out : List Row) (e : start m K ≡ found out) (nk : All (Names 8) K) where
+  module _ (K out : List Row) (e : start m K ≡ Ok out) (nk : All (Names 8) K) where
     pub start-zeroed-names : All (Names (8 + m.clocks)) (starting m K out e).zeroed
     start-zeroed-names =
         let x = starting m K out e in
@@ -95,7 +95,7 @@ module _ (m : Automaton) (ok : Shaped m) where
     start-names = let x = starting m K out e in stayed-names (m.invariant 0) x.zeroed out x.is_out (ok.invariants 0) start-zeroed-names
 
   -- a successor
-  module _ (s : List Row) (t : Edge) (it : In t m.edges) (out : List Row) (e : successor m s t ≡ found out) (ns : All (Names (8 + m.clocks)) s) where
+  module _ (s : List Row) (t : Edge) (it : In t m.edges) (out : List Row) (e : successor m s t ≡ Ok out) (ns : All (Names (8 + m.clocks)) s) where
     pub successor-zeroed-names : All (Names (8 + m.clocks)) (stages m s t out e).zeroed
     successor-zeroed-names =
         let x = stages m s t out e in
@@ -107,7 +107,7 @@ module _ (m : Automaton) (ok : Shaped m) where
     successor-names = let x = stages m s t out e in stayed-names (m.invariant t.target) x.zeroed out x.is_out (ok.invariants t.target) successor-zeroed-names
 
 -- a shadow
-pub shadow-names : (m : Automaton) (s sh : List Row) → shadow m s ≡ found sh → All (Names (8 + m.clocks)) s → All (Names 8) sh
+pub shadow-names : (m : Automaton) (s sh : List Row) → shadow m s ≡ Ok sh → All (Names (8 + m.clocks)) s → All (Names 8) sh
 unfolding shadow
 shadow-names m s sh e a = all-names 8 sh (λ u h. by u h (dec_le u (8 + m.clocks)))
   where

@@ -16,7 +16,7 @@ use Rattle.entries.proofs.Sums.{at_with}
 use Rattle.rows.proofs.Sign.{under_scale}
 use Rattle.rows.proofs.Meaning.{dot_blind, rest-with, single-above}
 use Rattle.rows.proofs.Dividing.{Blind}
-use Rattle.sets.specs.Outcomes.{found}
+use Rattle.sets.specs.Outcomes.{Ok}
 use Rattle.sets.proofs.Joining.{joined_exact}
 use Rattle.removal.specs.Exact.{Point, Meets}
 use Rattle.removal.proofs.Points.{move, dot-move, at-move, move-point}
@@ -61,7 +61,7 @@ module _ (k x : ℤ) (p : List ℤ) (hp : Point 16 p) where
   at-delay : at (move delay_entry k x p) delay_entry ≡ x
   at-delay = at-move delay_entry k x p (rw hp.size (omega arith))
 
-passed_exact : (s t : List Row) → passed s ≡ found t → All (Blind delay_entry) s → (p : List ℤ) → Point 16 p → Meets p t ↔ Earlier s p
+passed_exact : (s t : List Row) → passed s ≡ Ok t → All (Blind delay_entry) s → (p : List ℤ) → Point 16 p → Meets p t ↔ Earlier s p
 passed_exact s t e b p hp = (
   λ a. let m = moved.0 a in
       let j = (open_up m.den m.num m.den_pos).0 m.holds in
@@ -116,7 +116,7 @@ pub record Entered (inv s : List Row) (q : List ℤ) : Type 0 where
   pub arrived : Meets (waited k (neg_ℤ x) q) inv
   pub was : Meets (waited k (neg_ℤ x) q) s
 
-module _ (n : ℕ) (lt : n < delay_entry) (inv s t : List Row) (e : stayed inv s ≡ found t) (ni : All (Names n) inv) (ns : All (Names n) s) where
+module _ (n : ℕ) (lt : n < delay_entry) (inv s t : List Row) (e : stayed inv s ≡ Ok t) (ni : All (Names n) inv) (ns : All (Names n) s) where
   pub stayed_forward : (q : List ℤ) → Point 16 q → Meets q s → Meets q inv → (k d : ℤ) → pos 0 <ℤ k → pos 0 ≤ℤ d → Meets (waited k d q) inv → Meets (waited k d q) t
   stayed_forward q hq a i k d hk hd w =
       let x = staying inv s t e in

@@ -3,8 +3,7 @@ use Rattle.std.specs.Prelude.{◌≡◌, true, false, List, [], ◌∷◌, ◌++
 use Rattle.rows.specs.declared.Row.{Row}
 use Rattle.rows.specs.Rows.{entry_count, row_numbers, set_numbers, with_entry, false_row, negated, kept, gone, too_large, divided_down}
 use Rattle.sets.specs.declared.Refusal.TheVariants.{Misplaced, EntryTooLarge, BudgetUsed}
-use Rattle.sets.specs.declared.Outcome.TheVariants.{Found, Refused}
-use Rattle.sets.specs.Outcomes.{found, refused}
+use Rattle.sets.specs.Outcomes.{Ok, Err}
 use Rattle.removal.specs.Removal.{removed}
 use Rattle.models.specs.declared.Transition.{Transition}
 use Rattle.models.specs.declared.ModelRow.{ModelRow}
@@ -82,7 +81,7 @@ toy_region =
     strictly (add 1 1 (sub 1 3 none)) ∷ []
 
 abbrev pub found_with : ℕ → ℕ → ℕ → List Row → Ending
-found_with states attempts formed region = record { outcome = Found; states = states; attempts = attempts; formed = formed; region = region }
+found_with states attempts formed region = record { outcome = Ok tt; states = states; attempts = attempts; formed = formed; region = region }
 
 -- what the program lends: work stores and result store of one set, 900 rows and 256 records
 abbrev pub lent : Stores
@@ -127,9 +126,9 @@ printed input = written (run_hex 100000 input lent).ending
 -- ---- the claim
 pub record Marked : Type 0 where
   -- M1, M6, M7: x1 removed
-  pub m1 : removed 9 (loose (add 1 9 (sub 1 1 none)) ∷ strictly (add 1 2 (sub 1 9 none)) ∷ []) ≡ found (strictly (add 1 2 (sub 1 1 none)) ∷ [])
-  pub m6 : removed 9 (loose (add 2 9 (sub 1 1 none)) ∷ loose (add 1 2 (sub 3 9 none)) ∷ []) ≡ found (loose (add 2 2 (sub 3 1 none)) ∷ [])
-  pub m7 : removed 9 (loose (add 999999 9 (sub 999983 1 none)) ∷ loose (add 999979 2 (sub 1000000 9 none)) ∷ []) ≡ refused EntryTooLarge
+  pub m1 : removed 9 (loose (add 1 9 (sub 1 1 none)) ∷ strictly (add 1 2 (sub 1 9 none)) ∷ []) ≡ Ok (strictly (add 1 2 (sub 1 1 none)) ∷ [])
+  pub m6 : removed 9 (loose (add 2 9 (sub 1 1 none)) ∷ loose (add 1 2 (sub 3 9 none)) ∷ []) ≡ Ok (loose (add 2 2 (sub 3 1 none)) ∷ [])
+  pub m7 : removed 9 (loose (add 999999 9 (sub 999983 1 none)) ∷ loose (add 999979 2 (sub 1000000 9 none)) ∷ []) ≡ Err EntryTooLarge
   -- M2, M3, M4, M8: divided down
   pub m2 : divided_down (loose (add 4 1 (sub 6 2 none))) ≡ kept (loose (add 2 1 (sub 3 2 none)))
   pub m3 : divided_down (strictly none) ≡ kept false_row
@@ -143,8 +142,8 @@ pub record Marked : Type 0 where
   pub m10 : answer 100000 contradiction ≡ found_with 1 1 2 (strictly (sub 1 0 (add 1 1 (sub 1 2 none))) ∷ loose (sub 1 1 none) ∷ loose (sub 1 2 none) ∷ [])
   pub m9_hex : printed toy_input ≡ toy_output
   -- empty input; no transitions with budget 0; M9 with budgets 3 and 4; the reference 8, 4, 12 over 2
-  pub empty_input : (run_hex 100000 [] lent).ending.outcome ≡ Refused Misplaced
+  pub empty_input : (run_hex 100000 [] lent).ending.outcome ≡ Err Misplaced
   pub budget_0 : answer 0 still ≡ found_with 1 0 0 (loose (sub 1 1 none) ∷ loose (sub 1 2 none) ∷ loose (sub 1 3 none) ∷ [])
-  pub budget_3 : answer 3 (toy 1 (pos 4 ∷ pos 2 ∷ pos 6 ∷ []) 2) ≡ record { outcome = Refused BudgetUsed; states = 2; attempts = 1; formed = 3; region = [] }
+  pub budget_3 : answer 3 (toy 1 (pos 4 ∷ pos 2 ∷ pos 6 ∷ []) 2) ≡ record { outcome = Err BudgetUsed; states = 2; attempts = 1; formed = 3; region = [] }
   pub budget_4 : answer 4 (toy 1 (pos 4 ∷ pos 2 ∷ pos 6 ∷ []) 2) ≡ found_with 2 1 4 toy_region
   pub over_2 : answer 100000 (toy 2 (pos 8 ∷ pos 4 ∷ pos 12 ∷ []) 2) ≡ found_with 2 1 4 toy_region

@@ -4,8 +4,7 @@ use Rattle.std.specs.Prelude.{◌≡◌, ◌↔◌, List, [], ℕ, ◌<◌, ◌�
 use Rattle.integers.specs.Lists.{All}
 use Rattle.rows.specs.declared.Row.{Row}
 use Rattle.rows.specs.Rows.{set_rows, at, Small}
-use Rattle.sets.specs.declared.Outcome.TheVariants.{Found}
-use Rattle.sets.specs.Outcomes.{found}
+use Rattle.sets.specs.Outcomes.{Ok}
 use Rattle.sets.specs.Sets.{InOrder}
 use Rattle.models.specs.declared.Model.{Model}
 use Rattle.models.specs.Automaton.{Automaton, automaton}
@@ -29,17 +28,17 @@ pub record Guarantee (a : Automaton) (region : List Row) : Type 0 where
 
 -- DEMAND 3: whatever model is handed in, with whatever stores and budget, whenever the answer is outcome 0
 abbrev pub Demand3 : Type 0
-Demand3 = (budget : ℕ) (m : Model) (s : Stores) → (run budget m s).ending.outcome ≡ Found →
+Demand3 = (budget : ℕ) (m : Model) (s : Stores) → (run budget m s).ending.outcome ≡ Ok tt →
     Guarantee (automaton m) (run budget m s).ending.region
 
 -- the same of a model in hex bytes: it was read to tables, and these are what is promised of
 pub record ReadGuarantee (input : List ℕ) (region : List Row) : Type 0 where
   pub model : Model
-  pub is_read : read input ≡ found model
+  pub is_read : read input ≡ Ok model
   pub guarantee : Guarantee (automaton model) region
 
 abbrev pub Demand3Hex : Type 0
-Demand3Hex = (budget : ℕ) (input : List ℕ) (s : Stores) → (run_hex budget input s).ending.outcome ≡ Found →
+Demand3Hex = (budget : ℕ) (input : List ℕ) (s : Stores) → (run_hex budget input s).ending.outcome ≡ Ok tt →
     ReadGuarantee input (run_hex budget input s).ending.region
 
 -- ---- two things that a careful reader asks
@@ -51,9 +50,9 @@ pub record RegionForm (region : List Row) : Type 0 where
   pub parameters_only : All (λ r. (i : ℕ) → 8 < i → at r.entries i ≡ pos 0) region
 
 abbrev pub RegionFormed : Type 0
-RegionFormed = (budget : ℕ) (m : Model) (s : Stores) → (run budget m s).ending.outcome ≡ Found → RegionForm (run budget m s).ending.region
+RegionFormed = (budget : ℕ) (m : Model) (s : Stores) → (run budget m s).ending.outcome ≡ Ok tt → RegionForm (run budget m s).ending.region
 
 -- no trace set is empty: at every setting of the region a run begins, and shows the empty trace
 abbrev pub SomeTrace : Type 0
-SomeTrace = (budget : ℕ) (m : Model) (s : Stores) → (run budget m s).ending.outcome ≡ Found →
+SomeTrace = (budget : ℕ) (m : Model) (s : Stores) → (run budget m s).ending.outcome ≡ Ok tt →
     (ps : List Fraction) → Setting (automaton m) ps → Inside (automaton m) (run budget m s).ending.region ps → Trace (automaton m) ps []

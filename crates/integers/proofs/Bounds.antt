@@ -1,19 +1,21 @@
 -- Laws of ℤ by magnitude: what fits, the sign turned, a sum, a product and a quotient. Over any width. Assumes nothing.
-use mathlib.Core.Path.{◌≡◌, refl, sym, ap, ◌∙◌, subst}
-use mathlib.Core.Bool.{Bool, true, false, cond, ◌||◌}
+use mathlib.Core.Path.{◌≡◌, refl, sym, ap, ◌∙◌}
+use mathlib.Core.Bool.{Bool, true, false, cond, ◌||◌, or-true}
 use mathlib.Core.Logic.{◌⊎◌, inl, inr, ⊎_elim}
 use Prim.Native.Nat.{ℕ, zero, suc, ◌+◌, ◌*◌, ◌-◌, ◌/◌, ◌^◌, ◌≤◌, ◌<◌}
-use native.Mathlib.Nat.{le_refl, le-suc, lt_of_le_of_lt, suc_inj, suc-ne-zero, div-le_self, mul-le-mul}
+use native.Mathlib.Nat.{le_refl, le-suc, lt_of_le_of_lt, suc_inj, suc-ne-zero, mul-le-mul}
 use native.Mathlib.Omega.{arith}
-use borrow.Author.Tests.{ltb-true, eqb-true, eqb-false, eq-eqb}
-use lib.Dec.{T, eqb, ltb, lit<}
-use lib.IntN.{ℤ, pos, negsuc, neg_ℤ, suc_ℤ, nat_abs, sub_ℕ, ◌+ℤ◌, ◌-ℤ◌, ◌*ℤ◌, +ℤ_idl}
-use lib.Signed.{mag, non_neg, lt_z, quot_z}
+use borrow.Author.Tests.{ltb-true, eqb-true, eq-eqb}
+use lib.Dec.{eqb, ltb, lit<}
+use lib.IntN.{ℤ, pos, negsuc, neg_ℤ, nat_abs, sub_ℕ, ◌+ℤ◌, ◌*ℤ◌}
+use lib.Signed.{mag, quot_z}
 use mir.Syntax.{Width, w8, w16, w32, w64, w128}
 use mir.Val.{SFits, bits, hbits, to_z, of_z}
 use mir.Facts.{to_z-of_z}
+use Rattle.std.specs.Ordering.{int_eq}
+use Rattle.std.proofs.lemmas.Bool.Decides.{Decides-int_eq}
 use Rattle.integers.specs.Signs.{is_zero}
-use Rattle.integers.proofs.Tests.{or_true, or-false, same_test, zero_of}
+use Rattle.integers.proofs.Tests.{or_true, same_test, zero_of}
 
 pub mag_le : (z : ℤ) → mag z ≤ nat_abs z
 mag_le (pos n) = le_refl n
@@ -31,18 +33,6 @@ natAbs_neg (negsuc n) = refl
 -- what the machine reads back: of a call's result `.ok` is the bound, of an element that was read `.given`
 pub back : (w : Width) (z : ℤ) → mag z < 2 ^ hbits w → to_z w (of_z w z) ≡ z
 back w z h = to_z-of_z {w = w} {z = z} (record { sfits = h })
-
--- what the machine reads back from `-x`
-pub neg-read : {w : Width} {z : ℤ} → SFits w z → nat_abs z < 2 ^ hbits w → to_z w (of_z w (pos 0 -ℤ to_z w (of_z w z))) ≡ neg_ℤ z
-neg-read {w} {z} f h = rw (to_z-of_z f, +ℤ_idl (neg_ℤ z)) (to_z-of_z (fits_abs (neg_ℤ z) (rw (natAbs_neg z) h)))
-
-pub neg_nonNeg : (z : ℤ) → lt_z z (pos 0) ≡ true → T (non_neg (neg_ℤ z))
-neg_nonNeg (pos n) t = absurd (omega (arith, ltb-true n 0 t))
-neg_nonNeg (negsuc n) t = tt
-
-pub nonNeg_of : (z : ℤ) → lt_z z (pos 0) ≡ false → T (non_neg z)
-nonNeg_of (pos n) t = tt
-nonNeg_of (negsuc n) t = subst T t tt
 
 natAbs_sub : (a b : ℕ) → nat_abs (sub_ℕ a b) ≤ a + b
 natAbs_sub a b = go (ltb a b) refl
@@ -66,9 +56,6 @@ nat_abs_mul (negsuc a) (negsuc b) = refl
 pub natAbs_quot : (x : ℤ) (g : ℕ) → nat_abs (quot_z x (pos g)) ≡ nat_abs x / g
 natAbs_quot (pos a) g = refl
 natAbs_quot (negsuc a) g = natAbs_neg (pos (suc a / g))
-
-pub quot_fits : {w : Width} (x : ℤ) (g : ℕ) → nat_abs x < 2 ^ hbits w → SFits w (quot_z x (pos g))
-quot_fits x g h = fits_abs (quot_z x (pos g)) (rw natAbs_quot (lt_of_le_of_lt (div-le_self (nat_abs x) g) h))
 
 pub product_le : (B : ℕ) (x y : ℤ) → nat_abs x ≤ B → nat_abs y ≤ B → nat_abs (x *ℤ y) ≤ B * B
 product_le B x y h k = rw nat_abs_mul (mul-le-mul h k)
@@ -98,9 +85,6 @@ zero_bits w (pos zero) f = absurd (f refl)
 zero_bits w (pos (suc n)) f = refl
 zero_bits w (negsuc n) f = refl
 
-pub zero_test : (w : Width) (z : ℤ) → mag z < 2 ^ hbits w → eqb (of_z w z) 0 ≡ is_zero z
-zero_test w z h = same_test _ _ (λ e. bits-zero w z h (eqb-true _ _ e)) (λ e. rw (zero_of z e))
-
 -- signed numbers that fit are equal where their bits are
 pub bits-same : (w : Width) (z x : ℤ) → mag z < 2 ^ hbits w → mag x < 2 ^ hbits w → of_z w z ≡ of_z w x → z ≡ x
 bits-same w z x h k e = sym (back w z h) ∙ ap (to_z w) e ∙ back w x k
@@ -113,48 +97,20 @@ same_natAbs (negsuc n) (pos (suc m)) e = inr (ap negsuc (suc_inj e))
 same_natAbs (negsuc n) (negsuc m) e = inl (ap negsuc (suc_inj e))
 
 -- two tests, `z == x` and `z == -x`, of the magnitude
-pub either-sign : (w : Width) (z x : ℤ) → mag z < 2 ^ hbits w → nat_abs x < 2 ^ hbits w → (eqb (of_z w z) (of_z w x) || eqb (of_z w z) (of_z w (neg_ℤ x))) ≡ eqb (nat_abs z) (nat_abs x)
-either-sign w z x h k = same_test (p || q) (eqb (nat_abs z) (nat_abs x)) there back_again
+pub either_sign : (z x : ℤ) → (int_eq z x || int_eq z (neg_ℤ x)) ≡ eqb (nat_abs z) (nat_abs x)
+either_sign z x = same_test (int_eq z x || int_eq z (neg_ℤ x)) (eqb (nat_abs z) (nat_abs x)) there back_again
   where
-    p : Bool
-    p = eqb (of_z w z) (of_z w x)
-
-    q : Bool
-    q = eqb (of_z w z) (of_z w (neg_ℤ x))
-
-    there : (p || q) ≡ true → eqb (nat_abs z) (nat_abs x) ≡ true
+    there : (int_eq z x || int_eq z (neg_ℤ x)) ≡ true → eqb (nat_abs z) (nat_abs x) ≡ true
     there e =
         ⊎_elim
-        (λ f. eq-eqb _ _ (ap nat_abs (bits-same w z x h (lt_of_le_of_lt (mag_le x) k) (eqb-true _ _ f))))
-        (λ f. eq-eqb _ _ (ap nat_abs (bits-same w z (neg_ℤ x) h (lt_of_le_of_lt (mag_le (neg_ℤ x)) (rw natAbs_neg k)) (eqb-true _ _ f)) ∙ natAbs_neg x))
-        (or_true p q e)
+        (λ f. eq-eqb _ _ (ap nat_abs ((Decides-int_eq z x).0 f)))
+        (λ f. eq-eqb _ _ (ap nat_abs ((Decides-int_eq z (neg_ℤ x)).0 f) ∙ natAbs_neg x))
+        (or_true _ _ e)
 
-    back_again : eqb (nat_abs z) (nat_abs x) ≡ true → (p || q) ≡ true
-    back_again e = go (p || q) refl
-      where
-        go : (b : Bool) → (p || q) ≡ b → b ≡ true
-        go true f = refl
-        go false f =
-            let g = or-false p q f in
-            ⊎_elim (λ d. absurd (eqb-false _ _ g.0 (ap (of_z w) d))) (λ d. absurd (eqb-false _ _ g.1 (ap (of_z w) d))) (same_natAbs z x (eqb-true _ _ e))
+    back_again : eqb (nat_abs z) (nat_abs x) ≡ true → (int_eq z x || int_eq z (neg_ℤ x)) ≡ true
+    back_again e =
+        ⊎_elim (λ d. rw ((Decides-int_eq z x).1 d)) (λ d. rw ((Decides-int_eq z (neg_ℤ x)).1 d) (or-true (int_eq z x))) (same_natAbs z x (eqb-true _ _ e))
 
--- -(z + 1) of a z below 0: it fits, is not negative, and is one less than z's magnitude
-pub up-mag : (z : ℤ) → lt_z z (pos 0) ≡ true → mag (suc_ℤ z) ≤ mag z
-up-mag (pos n) t = absurd (omega (arith, ltb-true n 0 t))
-up-mag (negsuc zero) t = omega arith
-up-mag (negsuc (suc n)) t = omega arith
-
-pub down_mag : (z : ℤ) → lt_z z (pos 0) ≡ true → mag (neg_ℤ (suc_ℤ z)) ≤ mag z
-down_mag (pos n) t = absurd (omega (arith, ltb-true n 0 t))
-down_mag (negsuc zero) t = omega arith
-down_mag (negsuc (suc n)) t = omega arith
-
-pub down_nonNeg : (z : ℤ) → lt_z z (pos 0) ≡ true → T (non_neg (neg_ℤ (suc_ℤ z)))
-down_nonNeg (pos n) t = absurd (omega (arith, ltb-true n 0 t))
-down_nonNeg (negsuc zero) t = tt
-down_nonNeg (negsuc (suc n)) t = tt
-
-pub down_abs : (z : ℤ) → lt_z z (pos 0) ≡ true → nat_abs (neg_ℤ (suc_ℤ z)) + 1 ≡ nat_abs z
-down_abs (pos n) t = absurd (omega (arith, ltb-true n 0 t))
-down_abs (negsuc zero) t = refl
-down_abs (negsuc (suc n)) t = omega arith
+-- the test `z == 0`
+pub zero_is : (z : ℤ) → int_eq z (pos 0) ≡ is_zero z
+zero_is z = same_test _ _ (λ e. rw ((Decides-int_eq z (pos 0)).0 e)) (λ e. (Decides-int_eq z (pos 0)).1 (zero_of z e))

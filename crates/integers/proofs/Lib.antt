@@ -1,6 +1,8 @@
 pub mod Tests
 pub mod Lists
 pub mod Members
+pub mod FromFn
+pub mod Folds
 pub mod Loops
 pub mod Whole
 pub mod Ring

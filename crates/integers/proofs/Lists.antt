@@ -70,7 +70,6 @@ module _ {A B C : Type 0} where
 module _ {A : Type 0} where
   -- a computed test of every element
   pub every-all : (f : A → Bool) (l : List A) → every f l ≡ true → All (λ x. f x ≡ true) l
-  unfolding every
   every-all f [] e = nil
   every-all f (x ∷ l) e = cons (and_left (f x) (every f l) e) (every-all f l (and_right (f x) (every f l) e))
 
@@ -81,13 +80,11 @@ module _ {A : Type 0} where
 
   -- one element more behind the others
   pub every_last : (f : A → Bool) (l : List A) (x : A) → every f (l ++ x ∷ []) ≡ (every f l && f x)
-  unfolding every
   every_last f [] x = and-true (f x)
   every_last f (y ∷ l) x = ap (λ (b : Bool). f y && b) (every_last f l x) ∙ sym (and_assoc (f y) (every f l) (f x))
 
   -- two tests in one
   pub every-both : (f g : A → Bool) (l : List A) → every (λ x. f x && g x) l ≡ (every f l && every g l)
-  unfolding every
   every-both f g [] = refl
   every-both f g (x ∷ l) = ap (λ (b : Bool). (f x && g x) && b) (every-both f g l) ∙ and_mixed (f x) (g x) (every f l) (every g l)
 

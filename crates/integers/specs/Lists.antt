@@ -1,5 +1,6 @@
 -- Words on lists that the definitions above use.
-use Rattle.std.specs.Prelude.{◌≡◌, Bool, true, cond, ◌&&◌, List, [], ◌∷◌, ◌++◌, map, ℕ, zero, suc}
+use Rattle.std.specs.Prelude.{◌≡◌, Bool, cond, List, [], ◌∷◌, ◌++◌, map, ℕ, zero, suc}
+use Rattle.std.specs.List.{list_all}
 
 -- every element has the property (a data type, so that the property can be left for antt to find)
 pub data All {A : Type 0} (P : A → Type 0) : List A → Type 0 where
@@ -12,9 +13,8 @@ pub data In {A : Type 0} (x : A) : List A → Type 0 where
   there : {y : A} {l : List A} → In x l → In x (y ∷ l)
 
 -- every element passes the test
-unfoldable pub every : {A : Type 0} → (A → Bool) → List A → Bool
-every f [] = true
-every f (x ∷ l) = f x && every f l
+abbrev pub every : {A : Type 0} → (A → Bool) → List A → Bool
+every f l = list_all f l
 
 -- the elements that pass the test, in their order
 unfoldable pub filter : {A : Type 0} → (A → Bool) → List A → List A

@@ -1,45 +1,11 @@
-// Signed numbers as the layers above use them: widened and narrowed, turned, their magnitude and sign, their greatest common divisor
-// and exact quotient, and the two sums of products that rows need. Each is an inner step: a `requires` is met by the rows above.
+// Numbers as the layers above use them: the greatest common divisor, the exact quotient, and the two sums of products that rows need.
+// Each is an inner step: a `requires` is met by the rows above.
 #![tactic(auto)]
 
-ghost use Rattle.std.specs.Prelude.{◌≡◌, ℕ, ◌+◌, ◌*◌, ◌≤◌, ◌<◌, ◌^◌, ℤ, pos, neg_ℤ, nat_abs, ◌+ℤ◌, ◌*ℤ◌};
+ghost use Rattle.std.specs.Prelude.{◌≡◌, ◌*◌, ◌≤◌, ◌<◌, ◌^◌, pos, nat_abs, ◌+ℤ◌, ◌*ℤ◌};
 ghost use Rattle.std.specs.Int.Signed.{quot_z};
 ghost use Rattle.integers.specs.Gcd.{gcd};
 ghost use Rattle.integers.specs.Limits.{entry_limit};
-ghost use Rattle.integers.specs.Signs.{sign};
-
-pub fn wide(x: i32) -> i64
-    ensures { result ≡ x }
-{
-    x as i64
-}
-
-// Inner step: only what is within the entry limit is narrowed.
-pub fn narrow(x: i64) -> i32
-    requires { nat_abs x ≤ entry_limit }
-    ensures { result ≡ x }
-{
-    x as i32
-}
-
-// Inner step: of the least number the sign cannot be turned.
-pub fn turned(x: i32) -> i32
-    requires { nat_abs x < 2 ^ 31 }
-    ensures { result ≡ neg_ℤ x }
-{
-    -x
-}
-
-// Of any number, the least of the type too.
-pub fn magnitude(x: i64) -> u64
-    ensures { result ≡ nat_abs x }
-{
-    if x < 0 {
-        (-(x + 1)) as u64 + 1
-    } else {
-        x as u64
-    }
-}
 
 pub fn gcd_of(a: u64, b: u64) -> u64
     ensures { result ≡ gcd a b }
@@ -79,13 +45,4 @@ pub fn plus_product(s: i64, a: i64, b: i64) -> i64
     ensures { result ≡ s +ℤ a *ℤ b }
 {
     s + a * b
-}
-
-// 1, 0 or -1.
-pub fn sign(x: i32) -> i32
-    ensures { result ≡ sign x }
-{
-    let above = if 0 < x { 1 } else { 0 };
-    let below = if x < 0 { 1 } else { 0 };
-    above - below
 }

@@ -1,4 +1,4 @@
 pub mod Owners
 pub mod Placing
-pub mod Flattening
+pub mod Owned
 pub mod Laying

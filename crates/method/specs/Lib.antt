@@ -3,3 +3,4 @@ pub mod Due
 pub mod Entry
 pub mod Delays
 pub mod Shadows
+pub mod Sides

@@ -19,8 +19,7 @@ use Rattle.integers.proofs.Whole.{zed}
 use Rattle.rows.specs.Rows.{at, holds_at, set_rows, Within, Small}
 use Rattle.sets.specs.declared.Refusal.{Refusal}
 use Rattle.sets.specs.declared.Refusal.TheVariants.{Misplaced, HeaderRange, ReferenceRange, Undeclared, WrongTerms, InitialBroken, InvariantBroken}
-use Rattle.sets.specs.declared.Outcome.{Outcome}
-use Rattle.sets.specs.declared.Outcome.TheVariants.{Found, Refused}
+use Rattle.sets.specs.Outcomes.{Outcome, Ok}
 use Rattle.models.specs.declared.Header.{Header}
 use Rattle.models.specs.declared.Model.{Model}
 use Rattle.models.specs.declared.ModelRow.{ModelRow}
@@ -31,19 +30,15 @@ use Rattle.models.proofs.Setting.{length_from, resets-within}
 use Rattle.models.proofs.Shape.{Names, Shaped}
 
 -- ---- the tests that an accepted model passed
-abbrev is_found : Outcome → Bool
-is_found Found = true
-is_found (Refused r) = false
-
-past : (ok : Bool) (r : Refusal) (after : Outcome) → unless ok r after ≡ Found → (ok ≡ true) × (after ≡ Found)
+past : (ok : Bool) (r : Refusal) (after : Outcome) → unless ok r after ≡ Ok tt → (ok ≡ true) × (after ≡ Ok tt)
 past true r after e = (refl, e)
-past false r after e = not-both (ap is_found e)
+past false r after e = cc
 
 -- a row that is not refused by 5 or 6
 abbrev pub RowPassed : Header → ModelRow → Type 0
 RowPassed h r = (row_declared h r ≡ true) × (terms_fit r.entries ≡ true)
 
-pub past-rows : (h : Header) (rs : List ModelRow) (after : Outcome) → rows_accepted h rs after ≡ Found → All (RowPassed h) rs × (after ≡ Found)
+pub past-rows : (h : Header) (rs : List ModelRow) (after : Outcome) → rows_accepted h rs after ≡ Ok tt → All (RowPassed h) rs × (after ≡ Ok tt)
 unfolding rows_accepted
 past-rows h [] after e = (nil, e)
 past-rows h (r ∷ rs) after e =
@@ -63,10 +58,10 @@ pub record Passed (m : Model) : Type 0 where
   pub initial : All (λ r. holds_at (given_reference m) r ≡ true) (rows_of m 0 0)
   pub invariant : All (λ r. holds_at (given_reference m) r ≡ true) (rows_of m 1 0)
 
-pub passed : (m : Model) → accepted m ≡ Found → Passed m
+pub passed : (m : Model) → accepted m ≡ Ok tt → Passed m
 unfolding accepted reference_accepted reference_meets
 passed m e =
-    let last = unless (reference_meets m (rows_of m 1 0)) InvariantBroken Found in
+    let last = unless (reference_meets m (rows_of m 1 0)) InvariantBroken (Ok tt) in
     let few = unless (leb m.count set_rows) Misplaced (reference_accepted m) in
     let rows = rows_accepted m.header (given_rows m) few in
     let moves = unless (every (transition_declared m.header) (given_transitions m)) Undeclared rows in
@@ -76,7 +71,7 @@ passed m e =
     let d = past-rows m.header (given_rows m) few c.1 in
     let f = past (leb m.count set_rows) Misplaced (reference_accepted m) d.1 in
     let g = past (reference_meets m (rows_of m 0 0)) InitialBroken last f.1 in
-    let h = past (reference_meets m (rows_of m 1 0)) InvariantBroken Found g.1 in
+    let h = past (reference_meets m (rows_of m 1 0)) InvariantBroken (Ok tt) g.1 in
     record {
       header = a.0;
       reference = b.0;
@@ -114,7 +109,6 @@ transitions-within h e =
 
 -- ---- the numbers of an accepted model are given ones
 within_of : (B : ℕ) (l : List ℤ) → every (λ z. leb (nat_abs z) B) l ≡ true → Within B l
-unfolding every
 within_of B [] e i = zero-le
 within_of B (z ∷ l) e zero = leb-true (nat_abs z) B (and_left (leb (nat_abs z) B) _ e)
 within_of B (z ∷ l) e (suc i) = within_of B l (and_right (leb (nat_abs z) B) _ e) i
@@ -128,7 +122,6 @@ whole-within low high (pos n) e = and_right (leb low n) (leb n high) e
 whole-within low high (negsuc n) e = not-both e
 
 all-within : (low high : ℕ) (l : List ℤ) → every (λ z. between_whole low z high) l ≡ true → Within high l
-unfolding every
 all-within low high [] e i = zero-le
 all-within low high (z ∷ l) e zero = leb-true (nat_abs z) high (whole-within low high z (and_left (between_whole low z high) _ e))
 all-within low high (z ∷ l) e (suc i) = all-within low high l (and_right (between_whole low z high) _ e) i
@@ -137,6 +130,10 @@ pub reference-within : (d : ℤ) (ns : List ℤ) → reference_fits (d ∷ ns) �
 unfolding reference_fits
 reference-within d ns e zero = leb-true (nat_abs d) given_limit (whole-within 1 given_limit d (and_left (between_whole 1 d given_limit) _ e))
 reference-within d ns e (suc i) = all-within 0 given_limit ns (and_right (between_whole 1 d given_limit) _ e) i
+
+-- ---- rows that passed 5 and 6 are small
+pub rows_passed : (h : Header) (rs : List ModelRow) → rows_accepted h rs (Ok tt) ≡ Ok tt → All (λ r. Small r.entries) rs
+rows_passed h rs e = all_map (λ r p. terms-small r.entries p.1) (past-rows h rs (Ok tt) e).0
 
 -- ---- the reference
 from_low : (low : ℕ) (z : ℤ) (high : ℕ) → between_whole low z high ≡ true → pos low ≤ℤ z
@@ -218,7 +215,7 @@ all_edges m f j [] = nil
 all_edges m f j (t ∷ ts) = cons (f j t) (all_edges m f (suc j) ts)
 
 -- ---- all of it
-pub shaped : (m : Model) → accepted m ≡ Found → Shaped (automaton m)
+pub shaped : (m : Model) → accepted m ≡ Ok tt → Shaped (automaton m)
 unfolding automaton
 shaped m e =
     let p = passed m e in

@@ -2,5 +2,5 @@ pub mod Setting
 pub mod Shape
 pub mod Accepted
 pub mod Refusals
-pub mod Declared
 pub mod Tables
+pub mod Tests

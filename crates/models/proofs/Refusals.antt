@@ -10,11 +10,9 @@ use lib.Dec.{leb, eqb}
 use Rattle.integers.specs.Lists.{every}
 use Rattle.integers.proofs.Tests.{and_left, and_right, or_true}
 use Rattle.rows.specs.Rows.{set_rows}
-use Rattle.sets.specs.Outcomes.{outcome_number}
+use Rattle.sets.specs.Outcomes.{outcome_number, Outcome, Ok, Err}
 use Rattle.sets.specs.declared.Refusal.{Refusal}
 use Rattle.sets.specs.declared.Refusal.TheVariants.{Misplaced, HeaderRange, ReferenceRange, Undeclared, WrongTerms, InitialBroken, InvariantBroken}
-use Rattle.sets.specs.declared.Outcome.{Outcome}
-use Rattle.sets.specs.declared.Outcome.TheVariants.{Found, Refused}
 use Rattle.models.specs.declared.Header.{Header}
 use Rattle.models.specs.declared.Model.{Model}
 use Rattle.models.specs.declared.ModelRow.{ModelRow}
@@ -25,7 +23,7 @@ use Rattle.models.specs.Acceptance.{unless, between, header_fits, reference_fits
 abbrev pub of_acceptance : Outcome → Bool
 of_acceptance o = eqb (outcome_number o) 0 || between 2 (outcome_number o) 8
 
-unless_among : (ok : Bool) (r : Refusal) (after : Outcome) → of_acceptance (Refused r) ≡ true → of_acceptance after ≡ true → of_acceptance (unless ok r after) ≡ true
+unless_among : (ok : Bool) (r : Refusal) (after : Outcome) → of_acceptance (Err r) ≡ true → of_acceptance after ≡ true → of_acceptance (unless ok r after) ≡ true
 unless_among true r after e f = f
 unless_among false r after e f = e
 
@@ -41,7 +39,7 @@ reference_among : (m : Model) → of_acceptance (reference_accepted m) ≡ true
 unfolding reference_accepted
 reference_among m =
     unless_among (reference_meets m (rows_of m 0 0)) InitialBroken _ refl
-    (unless_among (reference_meets m (rows_of m 1 0)) InvariantBroken Found refl refl)
+    (unless_among (reference_meets m (rows_of m 1 0)) InvariantBroken (Ok tt) refl refl)
 
 pub accepted_among : (m : Model) → of_acceptance (accepted m) ≡ true
 unfolding accepted
@@ -75,15 +73,15 @@ pub never_1 : (m : Model) → eqb (outcome_number (accepted m)) 1 ≡ false
 never_1 m = not-one (outcome_number (accepted m)) (accepted_among m)
 
 -- ---- the header is judged first, then the reference, then the transitions, whatever else is wrong
-pub header-first : (m : Model) → header_fits m.header ≡ false → accepted m ≡ Refused HeaderRange
+pub header-first : (m : Model) → header_fits m.header ≡ false → accepted m ≡ Err HeaderRange
 unfolding accepted
 header-first m e = rw e refl
 
-pub reference-next : (m : Model) → header_fits m.header ≡ true → reference_fits (given_reference m) ≡ false → accepted m ≡ Refused ReferenceRange
+pub reference-next : (m : Model) → header_fits m.header ≡ true → reference_fits (given_reference m) ≡ false → accepted m ≡ Err ReferenceRange
 unfolding accepted
 reference-next m h e = rw (h, e) refl
 
 pub transitions-next : (m : Model) → header_fits m.header ≡ true → reference_fits (given_reference m) ≡ true →
-    every (transition_declared m.header) (given_transitions m) ≡ false → accepted m ≡ Refused Undeclared
+    every (transition_declared m.header) (given_transitions m) ≡ false → accepted m ≡ Err Undeclared
 unfolding accepted
 transitions-next m h k e = rw (h, k, e) refl

@@ -5,15 +5,18 @@ use mathlib.Core.Bool.{Bool, ◌&&◌}
 use mathlib.Core.List.{List, [], ◌∷◌, ◌++◌, map}
 use Prim.Native.Nat.{ℕ, zero, suc, ◌+◌, ◌-◌, ◌<◌, ◌≤◌, zero-le}
 use native.Mathlib.Omega.{arith}
-use lib.ListN.{length, get_or, replicate, length-map, get_or-eq_default}
+use lib.Seq.{ext_get_or, length-take-le, get_or-take}
+use lib.ListN.{take, length, get_or, replicate, length-map, get_or-eq_default}
 use lib.IntN.{ℤ, pos, ◌+ℤ◌, ◌*ℤ◌, *ℤ-zero}
 use native.Mathlib.Decide.{ℕ_discrete}
+use Rattle.integers.specs.Limits.{given_limit}
 use Rattle.integers.specs.Lists.{All, nil, cons, In, here, there, every, from}
 use Rattle.integers.proofs.Lists.{all_map, all_filter}
-use Rattle.integers.proofs.Loops.{front, front-all}
 use Rattle.rows.specs.declared.Row.{Row}
 use Rattle.rows.specs.Rows.{at, dot, under, holds_at, Within}
-use Rattle.models.specs.Automaton.{bit, reset_entries, padded}
+use Rattle.models.specs.declared.Model.{Model}
+use Rattle.models.specs.Automaton.{bit, reset_entries, padded, given_reference, setting_of, rows_of}
+use Rattle.models.specs.Acceptance.{reference_meets}
 
 pub length_from : (a n : ℕ) → length (from a n) ≡ n
 length_from a zero = refl
@@ -65,6 +68,12 @@ at-declared ns n i h = at-counted (λ j. at ns j) 0 n i h ∙ ap (at ns) (omega 
 pub length-counted : (f : ℕ → ℤ) (a n : ℕ) → length (map f (from a n)) ≡ n
 length-counted f a n = length-map (from a n) f ∙ length_from a n
 
+-- which are the first n of it
+pub declared_numerators : (ns : List ℤ) (n : ℕ) → n ≤ length ns → map (λ j. at ns j) (from 0 n) ≡ take n ns
+declared_numerators ns n h =
+    ext_get_or (pos 0) (map (λ j. at ns j) (from 0 n)) (take n ns) (length-counted (λ j. at ns j) 0 n ∙ sym (length-take-le n ns h))
+    (λ i k. let k₁ : i < n = omega (arith, length-counted (λ j. at ns j) 0 n) in at-declared ns n i k₁ ∙ sym (get_or-take n ns i (pos 0) k₁))
+
 -- ---- numbers padded with zeros
 pub length-padded : (n : ℕ) (l : List ℤ) → length (padded n (pos 0) l) ≡ n
 unfolding padded
@@ -101,10 +110,6 @@ within-padded B (suc n) [] w (suc i) = within-padded B n [] w i
 within-padded B (suc n) (x ∷ l) w zero = w 0
 within-padded B (suc n) (x ∷ l) w (suc i) = within-padded B n l (λ j. w (suc j)) i
 
--- a loop that copies what there is, and zeros past it
-pub front-padded : (n : ℕ) (l o : List ℤ) → length o ≡ n → front (λ k. at l k) n o ≡ padded n (pos 0) l
-front-padded n l o h = front-all (pos 0) (λ k. at l k) n o (padded n (pos 0) l) h (length-padded n l) (λ i k. sym (at-padded n l i k))
-
 -- no row sees the zeros
 dot-zeros : (n : ℕ) (l : List ℤ) → dot l (padded n (pos 0) []) ≡ dot l []
 unfolding dot padded
@@ -132,6 +137,14 @@ pub reference-past : (d : ℤ) (ns : List ℤ) (n i : ℕ) → n < i → at (d �
 reference-past d ns n i h = get_or-eq_default (d ∷ map (λ j. at ns j) (from 0 n)) (pos 0) {n = i} (omega (arith, length-counted (λ j. at ns j) 0 n))
 
 pub padded-meets : (n : ℕ) (p : List ℤ) (rows : List Row) → length p ≤ n → every (holds_at (padded n (pos 0) p)) rows ≡ every (holds_at p) rows
-unfolding every
 padded-meets n p [] h = refl
 padded-meets n p (r ∷ rows) h = ap₂ {C = Bool} (λ (a b : Bool). a && b) (ap (under r.strict) (dot-padded n r.entries p h)) (padded-meets n p rows h)
+
+-- the same of a model's reference
+module _ (m : Model) where
+  pub setting_met : (kind : ℕ) → m.header.parameters ≤ 8 → every (holds_at (setting_of m.reference m.header.parameters)) (rows_of m kind 0) ≡ reference_meets m (rows_of m kind 0)
+  unfolding reference_meets
+  setting_met kind h = padded-meets 9 (given_reference m) (rows_of m kind 0) (omega (arith, length-counted (at m.reference.numerators) 0 m.header.parameters))
+
+  pub setting_within : Within given_limit (given_reference m) → Within given_limit (setting_of m.reference m.header.parameters)
+  setting_within w = within-padded given_limit 9 (given_reference m) w

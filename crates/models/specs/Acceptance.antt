@@ -9,9 +9,10 @@ use Rattle.rows.specs.declared.Row.{Row}
 use Rattle.rows.specs.Rows.{set_rows, holds_at}
 use Rattle.sets.specs.declared.Refusal.{Refusal}
 use Rattle.sets.specs.declared.Refusal.TheVariants.{Misplaced, HeaderRange, ReferenceRange, Undeclared, WrongTerms, InitialBroken, InvariantBroken}
-use Rattle.sets.specs.declared.Outcome.{Outcome}
-use Rattle.sets.specs.declared.Outcome.TheVariants.{Found, Refused}
+use Rattle.sets.specs.Outcomes.{Outcome, Result, Ok, Err}
 use Rattle.models.specs.declared.Header.{Header}
+use Rattle.models.specs.declared.Kind.{Kind}
+use Rattle.models.specs.declared.Kind.TheVariants.{Initial, Invariant, Guard}
 use Rattle.models.specs.declared.Model.{Model}
 use Rattle.models.specs.declared.ModelRow.{ModelRow}
 use Rattle.models.specs.declared.Transition.{Transition}
@@ -19,7 +20,7 @@ use Rattle.models.specs.Automaton.{given_rows, given_transitions, given_referenc
 
 -- refused unless the test passes; else what comes after
 abbrev pub unless : Bool → Refusal → Outcome → Outcome
-unless ok r after = cond ok after (Refused r)
+unless ok r after = cond ok after (Err r)
 
 abbrev pub between : ℕ → ℕ → ℕ → Bool
 between low n high = leb low n && leb n high
@@ -41,6 +42,13 @@ unfoldable pub transition_declared : Header → Transition → Bool
 transition_declared h t = ltb t.source h.locations && (ltb t.target h.locations && ltb t.resets (2 ^ h.clocks))
 
 -- ---- 5 of a row: its owner, its flag and the entries that it names are declared; the initial constraint names no clock
+-- the kind of owner that a number says, if it says one
+abbrev pub kind_of : ℕ → Result Kind
+kind_of zero = Ok Initial
+kind_of (suc zero) = Ok Invariant
+kind_of (suc (suc zero)) = Ok Guard
+kind_of (suc (suc (suc number))) = Err Undeclared
+
 unfoldable pub owner_declared : Header → ℕ → ℕ → Bool
 owner_declared h zero owner = eqb owner 0
 owner_declared h (suc zero) owner = ltb owner h.locations
@@ -77,7 +85,7 @@ reference_meets m rows = every (holds_at (given_reference m)) rows
 unfoldable pub reference_accepted : Model → Outcome
 reference_accepted m =
     unless (reference_meets m (rows_of m 0 0)) InitialBroken
-    (unless (reference_meets m (rows_of m 1 0)) InvariantBroken Found)
+    (unless (reference_meets m (rows_of m 1 0)) InvariantBroken (Ok tt))
 
 -- ---- all of it; a 129th row is met after the rows before it
 unfoldable pub accepted : Model → Outcome

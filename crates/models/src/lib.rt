@@ -7,16 +7,17 @@ ghost use Rattle.integers.specs.Limits.{given_limit};
 ghost use Rattle.integers.specs.Lists.{All, every, from};
 ghost use Rattle.integers.specs.Signs.{is_zero};
 ghost use Rattle.rows.specs.Rows.{set_rows, at, holds_at, Small, Within};
-ghost use Rattle.sets.specs.declared.Outcome.{Outcome};
+ghost use Rattle.sets.specs.Outcomes.{Ok};
 ghost use Rattle.sets.specs.declared.Refusal.{Refusal};
-ghost use Rattle.models.specs.Automaton.{given_rows, given_transitions, reference_list, row_of, is_of, rows_of, setting_of};
-ghost use Rattle.models.specs.Acceptance.{unless, between, between_whole, header_fits, transition_declared, owner_declared, entry_declared, entries_declared, reference_fits, row_declared, terms_fit, rows_accepted, reference_accepted, accepted};
+ghost use Rattle.models.specs.Automaton.{given_rows, given_transitions, reference_list, row_of, kind_number, is_of, rows_of, setting_of};
+ghost use Rattle.models.specs.Acceptance.{unless, between, between_whole, header_fits, transition_declared, kind_of, owner_declared, entry_declared, entries_declared, reference_fits, row_declared, terms_fit, rows_accepted, reference_accepted, accepted};
 
-use rows::Row;
-use sets::{Outcome, Refusal};
+use rows::{Row, Set};
+use sets::Refusal;
+use std::array;
 
 // How many clocks, parameters, locations and transitions there are.
-#[derive(Clone, Copy)]
+#[derive(Clone, Copy, Default)]
 pub struct Header {
     pub clocks: u8,
     pub parameters: u8,
@@ -25,14 +26,14 @@ pub struct Header {
 }
 
 // One denominator, and a numerator for each parameter; those beyond the declared ones are not looked at.
-#[derive(Clone, Copy)]
+#[derive(Clone, Copy, Default)]
 pub struct Reference {
     pub denominator: i32,
     pub numerators: [i32; 8],
 }
 
 // Bit 0 of the resets is clock 1.
-#[derive(Clone, Copy)]
+#[derive(Clone, Copy, Default)]
 pub struct Transition {
     pub source: u8,
     pub action: u8,
@@ -40,8 +41,31 @@ pub struct Transition {
     pub resets: u8,
 }
 
-// A row of the initial constraint (kind 0), of a location's invariant (1) or of a transition's guard (2).
+// What a row belongs to: the initial constraint, a location's invariant or a transition's guard.
 #[derive(Clone, Copy)]
+pub enum Kind {
+    Initial,
+    Invariant,
+    Guard,
+}
+
+impl TryFrom<u8> for Kind {
+    type Error = Refusal;
+
+    ghost try_from_gives = { λ number kind. kind ≡ kind_of number };
+
+    fn try_from(number: u8) -> Result<Kind, Refusal> {
+        match number {
+            0 => Ok(Kind::Initial),
+            1 => Ok(Kind::Invariant),
+            2 => Ok(Kind::Guard),
+            _ => Err(Refusal::Undeclared),
+        }
+    }
+}
+
+// The kind, the owner and the flag are numbers, as they are handed in: what they say is tested, and refused by 5.
+#[derive(Clone, Copy, Default)]
 pub struct ModelRow {
     pub kind: u8,
     pub owner: u8,
@@ -61,85 +85,55 @@ pub struct Model {
 
 impl Header {
     // 3: 1 to 6 clocks, 1 to 8 parameters, 1 to 32 locations, 0 to 64 transitions.
+    #[tactic(auto, unfolding(crate::specs::Acceptance::header_fits))]
     pub fn fits(self) -> bool
         ensures { result ≡ header_fits self }
     {
-        let sizes = both(
-            between(1, self.locations, 32),
-            between(0, self.transitions, 64),
-        );
-        both(
-            between(1, self.clocks, 6),
-            both(between(1, self.parameters, 8), sizes),
-        )
+        (1..=6).contains(&self.clocks)
+            && (1..=8).contains(&self.parameters)
+            && (1..=32).contains(&self.locations)
+            && self.transitions <= 64
     }
 
     // 5 of a transition.
+    #[tactic(auto, unfolding(crate::specs::Acceptance::transition_declared))]
     pub fn transition_declared(self, t: Transition) -> bool
         ensures { result ≡ transition_declared self t }
     {
-        let clocks = resets_declared(t.resets, self.clocks);
-        both(
-            t.source < self.locations,
-            both(t.target < self.locations, clocks),
-        )
+        t.source < self.locations
+            && t.target < self.locations
+            && resets_declared(t.resets, self.clocks)
     }
 
     // 5 of a row: its owner.
+    #[tactic(auto, unfolding(crate::specs::Acceptance::owner_declared))]
     pub fn owner_declared(self, kind: u8, owner: u8) -> bool
         ensures { result ≡ owner_declared self kind owner }
     {
-        match kind {
-            0 => owner == 0,
-            1 => owner < self.locations,
-            2 => owner < self.transitions,
-            _ => false,
+        match Kind::try_from(kind) {
+            Ok(Kind::Initial) => owner == 0,
+            Ok(Kind::Invariant) => owner < self.locations,
+            Ok(Kind::Guard) => owner < self.transitions,
+            Err(_) => false,
         }
     }
 
     // 5 of a row: an entry that it names.
+    #[tactic(auto, unfolding(crate::specs::Acceptance::entry_declared))]
     pub fn entry_declared(self, kind: u8, entry: usize) -> bool
         ensures { result ≡ entry_declared self kind entry }
     {
-        let parameters = self.parameters;
-        let clocks = self.clocks;
-        if entry <= parameters as usize {
-            return true;
-        }
-        if kind == 0 {
-            return false;
-        }
-        both(9 <= entry, entry <= 8 + clocks as usize)
+        entry <= usize::from(self.parameters)
+            || kind != Kind::Initial as u8 && (9..=8 + usize::from(self.clocks)).contains(&entry)
     }
-}
-
-pub fn both(a: bool, b: bool) -> bool
-    ensures { result ≡ a && b }
-{
-    a && b
-}
-
-fn between(low: u8, n: u8, high: u8) -> bool
-    ensures { result ≡ between low n high }
-{
-    both(low <= n, n <= high)
 }
 
 // Whether no reset bit stands beyond the last clock. Eight clocks and more, which no header has that fits, would take every bit.
+#[tactic(auto, using(crate::proofs::Tests::all_bits))]
 fn resets_declared(resets: u8, clocks: u8) -> bool
     ensures { result ≡ ltb resets (2 ^ clocks) }
 {
-    if 7 < clocks {
-        return true;
-    }
-    (resets as u32) < (1u32 << (clocks as u32))
-}
-
-// 4 of a number: at least `low`, at most 1,000,000.
-fn given_from(low: i32, n: i32) -> bool
-    ensures { result ≡ le_z low n && le_z n (pos given_limit) }
-{
-    both(low <= n, n <= 1_000_000)
+    7 < clocks || u32::from(resets) < 1 << clocks
 }
 
 impl Reference {
@@ -148,23 +142,9 @@ impl Reference {
         requires { parameters ≤ 8 }
         ensures { result ≡ reference_fits (reference_list self parameters) }
     {
-        both(
-            given_from(1, self.denominator),
-            self.numerators_fit(parameters),
-        )
-    }
-
-    fn numerators_fit(self, parameters: u8) -> bool
-        requires { parameters ≤ 8 }
-        ensures { result ≡ every (λ n. between_whole 0 n given_limit) (map (λ i. at self.numerators i) (from 0 parameters)) }
-    {
-        let ns = self.numerators;
-        for i in 0..parameters as usize {
-            if !given_from(0, ns[i]) {
-                return false;
-            }
-        }
-        true
+        let declared = &self.numerators[..usize::from(parameters)];
+        (1..=1_000_000).contains(&self.denominator)
+            && declared.iter().all(|n| (0..=1_000_000).contains(n))
     }
 
     // Inner step: the denominator, a declared numerator, or 0.
@@ -172,25 +152,20 @@ impl Reference {
         requires { i ≤ 8 }
         ensures { result ≡ at (reference_list self parameters) i }
     {
-        let ns = self.numerators;
         if i == 0 {
-            return integers::wide(self.denominator);
+            i64::from(self.denominator)
+        } else if i <= usize::from(parameters) {
+            i64::from(self.numerators[i - 1])
+        } else {
+            0
         }
-        if i <= parameters as usize {
-            return integers::wide(ns[i - 1]);
-        }
-        0
     }
 
     // The setting that it gives to eight parameters: those that are not declared are 0.
     pub fn setting(self, parameters: u8) -> [i64; 9]
         ensures { result ≡ setting_of self parameters }
     {
-        let mut to = [0i64; 9];
-        for i in 0..9 {
-            to[i] = self.number(parameters, i);
-        }
-        to
+        array::from_fn(|i| self.number(parameters, i))
     }
 }
 
@@ -199,212 +174,145 @@ impl ModelRow {
     pub fn row(self) -> Row
         ensures { result ≡ row_of self }
     {
-        let e = self.entries;
+        let entries = self.entries;
         Row {
-            entries: e,
+            entries,
             strict: self.strict == 1,
         }
     }
 
-    pub fn is_of(self, kind: u8, owner: u8) -> bool
-        ensures { result ≡ is_of kind owner self }
+    pub fn is_of(self, kind: Kind, owner: u8) -> bool
+        ensures { result ≡ is_of (kind_number kind) owner self }
     {
-        both(self.kind == kind, self.owner == owner)
+        self.kind == kind as u8 && self.owner == owner
     }
 
     // 5 of a row.
+    #[tactic(auto, unfolding(crate::specs::Acceptance::row_declared))]
     pub fn declared(self, h: Header) -> bool
         ensures { result ≡ row_declared h self }
     {
-        let e = self.entries;
-        let named = entries_declared(h, self.kind, e);
-        both(
-            h.owner_declared(self.kind, self.owner),
-            both(self.strict <= 1, named),
-        )
+        h.owner_declared(self.kind, self.owner)
+            && self.strict <= 1
+            && entries_declared(h, self.kind, self.entries)
     }
 
     // 5 of a row, then 6.
-    pub fn outcome(self, h: Header) -> Outcome
-        ensures { result ≡ rows_accepted h (self ∷ []) Outcome.Found }
+    #[tactic(auto, unfolding(crate::specs::Acceptance::rows_accepted))]
+    pub fn outcome(self, h: Header) -> Result<(), Refusal>
+        ensures { result ≡ rows_accepted h (self ∷ []) (Ok tt) }
     {
-        let e = self.entries;
         if !self.declared(h) {
-            return Outcome::Refused(Refusal::Undeclared);
+            return Err(Refusal::Undeclared);
         }
-        if !terms_fit(e) {
-            return Outcome::Refused(Refusal::WrongTerms);
+        if !terms_fit(self.entries) {
+            return Err(Refusal::WrongTerms);
         }
-        Outcome::Found
+        Ok(())
     }
 
     // Inner step: not a row of location 0 or of the initial constraint, as the kind says, or met by the setting.
-    fn is_met(self, kind: u8, setting: [i64; 9]) -> bool
+    fn is_met(self, kind: Kind, setting: [i64; 9]) -> bool
         requires { Small self.entries × Within given_limit setting }
-        ensures { result ≡ not (is_of kind 0 self) || holds_at setting (row_of self) }
+        ensures { result ≡ not (is_of (kind_number kind) 0 self) || holds_at setting (row_of self) }
     {
-        if self.is_of(kind, 0) {
-            return self.row().holds(setting);
-        }
-        true
+        !self.is_of(kind, 0) || self.row().holds(setting)
     }
 }
 
-// Whether the entry is 0 or declared.
-fn is_named(h: Header, kind: u8, i: usize, z: i32) -> bool
-    ensures { result ≡ is_zero z || entry_declared h kind i }
-{
-    if z == 0 {
-        return true;
-    }
-    h.entry_declared(kind, i)
-}
-
+// Whether each entry is 0 or declared.
 fn entries_declared(h: Header, kind: u8, e: [i32; 16]) -> bool
     ensures { result ≡ entries_declared h kind 0 e }
 {
-    for i in 0..16 {
-        if !is_named(h, kind, i, e[i]) {
-            return false;
-        }
-    }
-    true
-}
-
-fn all_zero(e: [i32; 16]) -> bool
-    ensures { result ≡ every is_zero e }
-{
-    for i in 0..16 {
-        if e[i] != 0 {
-            return false;
-        }
-    }
-    true
-}
-
-fn all_given(e: [i32; 16]) -> bool
-    ensures { result ≡ every (λ z. leb (nat_abs z) given_limit) e }
-{
-    for i in 0..16 {
-        if 1_000_000 < integers::magnitude(integers::wide(e[i])) {
-            return false;
-        }
-    }
-    true
+    e.iter()
+        .enumerate()
+        .all(|(i, z)| *z == 0 || h.entry_declared(kind, i))
 }
 
 // 6 of a row: its terms are its nonzero entries.
 fn terms_fit(e: [i32; 16]) -> bool
     ensures { result ≡ terms_fit e }
 {
-    both(!all_zero(e), all_given(e))
-}
-
-// How many rows a table holds that counts so many.
-fn held(count: usize) -> usize
-    ensures { result ≡ cond (leb count set_rows) count set_rows }
-{
-    if count <= rows::Set::ROWS {
-        count
-    } else {
-        rows::Set::ROWS
-    }
+    e != [0; 16] && e.iter().all(|z| z.unsigned_abs() <= 1_000_000)
 }
 
 impl Model {
     // The reference as a setting of eight parameters.
-    pub fn setting(self) -> [i64; 9]
-        ensures { result ≡ setting_of self.reference self.header.parameters }
+    pub fn setting(&self) -> [i64; 9]
+        ensures { result ≡ setting_of self.now.reference self.now.header.parameters }
     {
-        let reference = self.reference;
-        reference.setting(self.header.parameters)
+        self.reference.setting(self.header.parameters)
     }
 
-    fn transitions_declared(self) -> bool
-        requires { self.header.transitions ≤ 64 }
-        ensures { result ≡ every (transition_declared self.header) (given_transitions self) }
+    // The rows that the count takes in, and no more than the table holds.
+    pub fn given_rows(&self) -> &[ModelRow]
+        ensures { result.now ≡ given_rows self.now }
     {
-        let h = self.header;
-        for i in 0..h.transitions as usize {
-            let t = self.transitions[i];
-            if !h.transition_declared(t) {
-                return false;
-            }
-        }
-        true
+        &self.rows[..self.count.min(Set::ROWS)]
+    }
+
+    fn transitions_declared(&self) -> bool
+        requires { self.now.header.transitions ≤ 64 }
+        ensures { result ≡ every (transition_declared self.now.header) (given_transitions self.now) }
+    {
+        self.transitions[..usize::from(self.header.transitions)]
+            .iter()
+            .all(|t| self.header.transition_declared(*t))
     }
 
     // 5 and 6 of the rows in table order, the first that applies.
-    fn rows_outcome(self) -> Outcome
-        ensures { result ≡ rows_accepted self.header (given_rows self) Outcome.Found }
+    #[tactic(auto, using(crate::proofs::Tables::rows_stop, crate::proofs::Tables::rows_turn, crate::proofs::Tables::rows_done))]
+    fn rows_outcome(&self) -> Result<(), Refusal>
+        ensures { result ≡ rows_accepted self.now.header (given_rows self.now) (Ok tt) }
     {
-        let h = self.header;
-        let n = held(self.count);
-        for i in 0..n {
-            let r = self.rows[i];
-            let o = r.outcome(h);
-            match o {
-                Outcome::Found => {}
-                Outcome::Refused(q) => {
-                    return Outcome::Refused(q);
-                }
-            }
+        for r in self.given_rows() {
+            r.outcome(self.header)?;
         }
-        Outcome::Found
+        Ok(())
     }
 
-    // Inner step: whether the setting meets the initial constraint (kind 0) or the invariant of location 0 (kind 1).
-    fn meets(self, kind: u8, setting: [i64; 9]) -> bool
-        requires { All (λ r. Small r.entries) (given_rows self) × Within given_limit setting }
-        ensures { result ≡ every (holds_at setting) (rows_of self kind 0) }
+    // Inner step: whether the setting meets the initial constraint, or the invariant of location 0, as the kind says.
+    fn meets(&self, kind: Kind, setting: [i64; 9]) -> bool
+        requires { All (λ r. Small r.entries) (given_rows self.now) × Within given_limit setting }
+        ensures { result ≡ every (holds_at setting) (rows_of self.now (kind_number kind) 0) }
     {
-        let n = held(self.count);
-        for i in 0..n {
-            let r = self.rows[i];
-            if !r.is_met(kind, setting) {
-                return false;
-            }
-        }
-        true
+        self.given_rows().iter().all(|r| r.is_met(kind, setting))
     }
 
     // Inner step: what follows 2 to 6 of the rows in the table: a row too many, then 7 and 8.
-    fn reference_outcome(self) -> Outcome
-        requires { All (λ r. Small r.entries) (given_rows self) × Within given_limit (reference_list self.reference self.header.parameters) × (self.header.parameters ≤ 8) }
-        ensures { result ≡ unless (leb self.count set_rows) Refusal.Misplaced (reference_accepted self) }
+    #[tactic(auto, using(crate::proofs::Setting::setting_met, crate::proofs::Setting::setting_within), unfolding(crate::specs::Acceptance::reference_accepted))]
+    fn reference_outcome(&self) -> Result<(), Refusal>
+        requires { All (λ r. Small r.entries) (given_rows self.now) × Within given_limit (reference_list self.now.reference self.now.header.parameters) × (self.now.header.parameters ≤ 8) }
+        ensures { result ≡ unless (leb self.now.count set_rows) Refusal.Misplaced (reference_accepted self.now) }
     {
-        if rows::Set::ROWS < self.count {
-            return Outcome::Refused(Refusal::Misplaced);
+        if Set::ROWS < self.count {
+            return Err(Refusal::Misplaced);
         }
         let setting = self.setting();
-        if !self.meets(0, setting) {
-            return Outcome::Refused(Refusal::InitialBroken);
+        if !self.meets(Kind::Initial, setting) {
+            return Err(Refusal::InitialBroken);
         }
-        if !self.meets(1, setting) {
-            return Outcome::Refused(Refusal::InvariantBroken);
+        if !self.meets(Kind::Invariant, setting) {
+            return Err(Refusal::InvariantBroken);
         }
-        Outcome::Found
+        Ok(())
     }
 
     // Found, or the first of the refusals 2 to 8 that applies.
-    pub fn accepted(self) -> Outcome
-        ensures { result ≡ accepted self }
+    #[tactic(auto, using(crate::proofs::Accepted::rows_passed, crate::proofs::Tables::rows_found, crate::proofs::Tables::rows_refused), unfolding(crate::specs::Acceptance::accepted))]
+    pub fn accepted(&self) -> Result<(), Refusal>
+        ensures { result ≡ accepted self.now }
     {
-        let h = self.header;
-        let reference = self.reference;
-        if !h.fits() {
-            return Outcome::Refused(Refusal::HeaderRange);
+        if !self.header.fits() {
+            return Err(Refusal::HeaderRange);
         }
-        if !reference.fits(h.parameters) {
-            return Outcome::Refused(Refusal::ReferenceRange);
+        if !self.reference.fits(self.header.parameters) {
+            return Err(Refusal::ReferenceRange);
         }
         if !self.transitions_declared() {
-            return Outcome::Refused(Refusal::Undeclared);
+            return Err(Refusal::Undeclared);
         }
-        let o = self.rows_outcome();
-        match o {
-            Outcome::Found => self.reference_outcome(),
-            Outcome::Refused(q) => Outcome::Refused(q),
-        }
+        self.rows_outcome()?;
+        self.reference_outcome()
     }
 }

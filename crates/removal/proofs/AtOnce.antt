@@ -18,7 +18,8 @@ use Rattle.integers.proofs.Bounds.{bits-zero, zero_bits}
 use Rattle.integers.proofs.Tests.{and_left, and_right, and_none, or-false, split}
 use Rattle.rows.specs.Rows.{entry_count, row_numbers, set_rows, set_numbers}
 use Rattle.rows.proofs.Stores.{flag-read}
-use Rattle.sets.specs.declared.Outcome.TheVariants.{Found, Refused}
+use Rattle.sets.specs.Outcomes.{Outcome, Ok, Err}
+use Rattle.sets.proofs.Results.{refused-not}
 use Rattle.sets.specs.declared.Refusal.{Refusal}
 use Rattle.sets.specs.declared.Refusal.TheVariants.{Undeclared, TooManyRows, ShortStore}
 use Rattle.removal.specs.Alone.{short, is_flag, flags_fit, is_variable, refused_at_once}
@@ -44,7 +45,6 @@ flags-start s n = rw (sub-zero n)
 
 module _ (s : List ℤ) (n i : ℕ) where
   flags-left : i < n → every (flag_at s) (from i (n - i)) ≡ (flag_at s i && every (flag_at s) (from (i + 1) (n - (i + 1))))
-  unfolding every
   flags-left h = let e : n - i ≡ suc (n - (i + 1)) = omega arith in rw (e, add-one i)
 
   pub flags_turn : i < n → flag_at s i ≡ true → every (flag_at s) (from (i + 1) (n - (i + 1))) ≡ every (flag_at s) (from i (n - i))
@@ -54,7 +54,6 @@ module _ (s : List ℤ) (n i : ℕ) where
   flags-stop h e = rw (flags-left h, e)
 
   pub flags-done : n ≤ i → true ≡ every (flag_at s) (from i (n - i))
-  unfolding every
   flags-done h = let e : n - i ≡ 0 = omega arith in rw e
 
 -- ---- a variable number
@@ -74,30 +73,30 @@ variable_in v e =
 
 -- ---- in their order
 module _ (count : ℕ) (vs : List ℕ) (a b : List ℤ) where
-  pub first_short : length a < set_numbers → Refused ShortStore ≡ refused_at_once count vs a b
+  pub first_short : length a < set_numbers → Err ShortStore ≡ refused_at_once count vs a b
   unfolding refused_at_once
   first_short h = rw (lt-ltb (length a) set_numbers h)
 
   module _ (l : set_numbers ≤ length a) where
-    pub second_short : length b < set_numbers → Refused ShortStore ≡ refused_at_once count vs a b
+    pub second_short : length b < set_numbers → Err ShortStore ≡ refused_at_once count vs a b
     unfolding refused_at_once
     second_short h = rw (le-ltb (length a) set_numbers l, lt-ltb (length b) set_numbers h)
 
     module _ (m : set_numbers ≤ length b) where
-      pub too_many : set_rows < count → Refused TooManyRows ≡ refused_at_once count vs a b
+      pub too_many : set_rows < count → Err TooManyRows ≡ refused_at_once count vs a b
       unfolding refused_at_once
       too_many h = rw (le-ltb (length a) set_numbers l, le-ltb (length b) set_numbers m, lt-ltb set_rows count h)
 
       module _ (k : count ≤ set_rows) where
-        pub flag_wrong : flags_fit a count ≡ false → Refused Undeclared ≡ refused_at_once count vs a b
+        pub flag_wrong : flags_fit a count ≡ false → Err Undeclared ≡ refused_at_once count vs a b
         unfolding refused_at_once
         flag_wrong e = rw (le-ltb (length a) set_numbers l, le-ltb (length b) set_numbers m, le-ltb set_rows count k, e)
 
-        pub variable_wrong : flags_fit a count ≡ true → every is_variable vs ≡ false → Refused Undeclared ≡ refused_at_once count vs a b
+        pub variable_wrong : flags_fit a count ≡ true → every is_variable vs ≡ false → Err Undeclared ≡ refused_at_once count vs a b
         unfolding refused_at_once
         variable_wrong e f = rw (le-ltb (length a) set_numbers l, le-ltb (length b) set_numbers m, le-ltb set_rows count k, e, f)
 
-        pub none_wrong : flags_fit a count ≡ true → every is_variable vs ≡ true → Found ≡ refused_at_once count vs a b
+        pub none_wrong : flags_fit a count ≡ true → every is_variable vs ≡ true → (Ok tt) ≡ refused_at_once count vs a b
         unfolding refused_at_once
         none_wrong e f = rw (le-ltb (length a) set_numbers l, le-ltb (length b) set_numbers m, le-ltb set_rows count k, e, f)
 
@@ -109,10 +108,10 @@ pub record Accepted (count : ℕ) (vs : List ℕ) (a b : List ℤ) : Type 0 wher
   pub flags : flags_fit a count ≡ true
   pub variables : every is_variable vs ≡ true
 
-not_found : {G : Type 0} {q : Refusal} → Refused q ≡ Found → G
-not_found e = let z : ◌≡◌ {A = ℕ} 0 1 = cc in absurd (omega arith)
+not_found : {G : Type 0} {q : Refusal} → ◌≡◌ {A = Outcome} (Err q) (Ok tt) → G
+not_found e = refused-not e
 
-pub accepted : (count : ℕ) (vs : List ℕ) (a b : List ℤ) → refused_at_once count vs a b ≡ Found → Accepted count vs a b
+pub accepted : (count : ℕ) (vs : List ℕ) (a b : List ℤ) → refused_at_once count vs a b ≡ (Ok tt) → Accepted count vs a b
 unfolding refused_at_once
 accepted count vs a b e =
     split (short a b) _ _ _ e (λ h f. not_found f) (λ h f.

@@ -1,6 +1,9 @@
 -- The part of a store that an answer speaks of: its end, and where it lies. Assumes nothing.
 use mathlib.Core.Path.{◌≡◌, refl, ap}
 use mathlib.Core.Bool.{Bool, true, false, cond, ◌&&◌}
+use mathlib.Core.List.{List, []}
+use lib.ListN.{take}
+use lib.IntN.{ℤ}
 use Prim.Native.Nat.{ℕ, ◌*◌, ◌≤◌, ◌<◌, zero-le}
 use native.Mathlib.Omega.{arith}
 use borrow.Author.Tests.{le-leb, lt-leb, leb-true}
@@ -35,3 +38,7 @@ module _ (long rows : ℕ) where
 -- a part that starts at 0 lies where its store lies
 pub at-start : (p : ℕ × ℕ) → (p.0, by_size 4 0 p.1) ≡ p
 at-start p = ap (λ (k : ℕ). (p.0, k)) (omega arith)
+
+-- a refusal has no rows
+pub none_taken : (long : ℕ) (s : List ℤ) → [] ≡ take (part_end long 0) s
+none_taken long s = rw (← end_fits long 0 zero-le zero-le) refl

@@ -4,7 +4,7 @@ use Rattle.integers.specs.Lists.{filter, pairs}
 use Rattle.integers.specs.Signs.{is_zero, isAbove, isBelow}
 use Rattle.rows.specs.declared.Row.{Row}
 use Rattle.rows.specs.Rows.{at, paired}
-use Rattle.sets.specs.Outcomes.{Result, found, and_then}
+use Rattle.sets.specs.Outcomes.{Result, Ok, and_then}
 use Rattle.sets.specs.Sets.{joined}
 
 abbrev pub entry : ℕ → Row → ℤ
@@ -29,5 +29,5 @@ removed v s = joined (remaining v s) []
 
 -- several, in the order given
 unfoldable pub all_removed : List ℕ → List Row → Result (List Row)
-all_removed [] s = found s
+all_removed [] s = Ok s
 all_removed (v ∷ vs) s = and_then (removed v s) (λ t. all_removed vs t)

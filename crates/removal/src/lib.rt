@@ -1,95 +1,76 @@
 // Removal of variables between two lent stores: one variable from store to store, several alternating, and the removal called alone.
+// C programs lend the two stores one by one, and `remove` hands one of them back, so they go as two parameters; a set is a store and the number
+// of its rows, read and written by offset.
 #![tactic(auto)]
 
 ghost use Rattle.std.specs.Prelude.{◌≡◌, List, [], ℕ, ◌+◌, ◌*◌, ◌≤◌, ◌<◌, length};
 ghost use mathlib.Core.Bool.{not};
 ghost use Rattle.integers.specs.Lists.{every};
 ghost use Rattle.rows.specs.Rows.{row_numbers, set_rows, set_numbers};
-ghost use Rattle.sets.specs.declared.Outcome.TheVariants.{Found};
-ghost use Rattle.sets.specs.Outcomes.{refused, and_then};
+ghost use Rattle.sets.specs.Outcomes.{Ok, and_then};
 ghost use Rattle.sets.specs.Sets.{joined};
 ghost use Rattle.sets.specs.Stores.{rows_at, Left};
 ghost use Rattle.removal.specs.Removal.{removed, all_removed};
-ghost use Rattle.removal.specs.Alone.{pick, side_after, placed, placed_as, standing, Between, Moved, flags_fit, is_variable, refused_at_once, alone, Tidied, RemovedAlone, part_end, PartIs, as_shared, RemovedPart};
+ghost use Rattle.removal.specs.Alone.{pick, side_after, side, rows_placed, standing, Between, Moved, flags_fit, is_variable, refused_at_once, alone, Tidied, RemovedAlone, part_end, PartIs, as_shared, RemovedPart};
 
 use rows::{Row, Set};
-use sets::{Joined, Outcome, Refusal};
+use sets::Refusal;
 
 mod pairs;
 
-// Where a set stands: in the first or the second of two stores, with so many rows; or why there is none.
+// Where a set stands: in the first or the second of two stores, with so many rows.
 #[derive(Clone, Copy)]
 pub struct Placed {
     pub rows: usize,
     pub second: bool,
-    pub outcome: Outcome,
-}
-
-impl Placed {
-    pub fn refused(r: Refusal) -> Placed
-        ensures { result ≡ placed mathlib.Core.Bool.false (refused r) }
-    {
-        Placed {
-            rows: 0,
-            second: false,
-            outcome: Outcome::Refused(r),
-        }
-    }
-
-    // A step's answer, with the store that it wrote.
-    pub fn of(c: Joined, second: bool) -> Placed
-        ensures { result ≡ placed_as second c }
-    {
-        let o = c.outcome;
-        match o {
-            Outcome::Found => Placed {
-                rows: c.rows,
-                second: second,
-                outcome: Outcome::Found,
-            },
-            Outcome::Refused(r) => Placed::refused(r),
-        }
-    }
 }
 
 // Inner step: one variable more, from the store that has the set to the other. A refusal is handed on.
-pub fn remove_next(first: &mut [i32], second: &mut [i32], s: Placed, v: usize) -> Placed
+pub fn remove_next(
+    first: &mut [i32],
+    second: &mut [i32],
+    s: Result<Placed, Refusal>,
+    v: usize,
+) -> Result<Placed, Refusal>
     requires { Between first.old second.old s × (0 < v) × (v < 16) }
-    ensures { Moved (not s.second) (and_then (standing first.old second.old s) (removed v)) first.old second.old first.new second.new result }
+    ensures { Moved (not (side s)) (and_then (standing first.old second.old s) (removed v)) first.old second.old first.new second.new result }
 {
-    let o = s.outcome;
-    match o {
-        Outcome::Refused(r) => Placed::refused(r),
-        Outcome::Found => {
-            if s.second {
-                Placed::of(pairs::without(second, s.rows, v, first), false)
-            } else {
-                Placed::of(pairs::without(first, s.rows, v, second), true)
-            }
-        }
+    let s = s?;
+    if s.second {
+        let rows = pairs::without(second, s.rows, v, first)?;
+        return Ok(Placed {
+            rows,
+            second: false,
+        });
     }
+    let rows = pairs::without(first, s.rows, v, second)?;
+    Ok(Placed { rows, second: true })
 }
 
 // Inner step: several variables, in the order given.
-pub fn remove_all(first: &mut [i32], second: &mut [i32], s: Placed, variables: &[u8]) -> Placed
+pub fn remove_all(
+    first: &mut [i32],
+    second: &mut [i32],
+    s: Result<Placed, Refusal>,
+    variables: &[u8],
+) -> Result<Placed, Refusal>
     requires { Between first.old second.old s × (every is_variable variables.now ≡ mathlib.Core.Bool.true) }
-    ensures { Moved (side_after s.second variables.now) (and_then (standing first.old second.old s) (all_removed variables.now)) first.old second.old first.new second.new result }
+    ensures { Moved (side_after (side s) variables.now) (and_then (standing first.old second.old s) (all_removed variables.now)) first.old second.old first.new second.new result }
 {
     let mut done = s;
-    let mut i: usize = 0;
-    while i < variables.len() {
-        done = remove_next(first, second, done, variables[i] as usize);
-        i += 1;
+    for v in variables {
+        done = remove_next(first, second, done, usize::from(*v));
     }
     done
 }
 
-// The given rows divided down and made a set, in their own store: the set grows no faster than the rows are read.
-fn make_set(s: &mut [i32], n: usize) -> Joined
+// The given rows divided down and made a set, in their own store: the set grows no faster than the rows are read. `sets::join` reads another
+// store than it writes, and cannot be borrowed so.
+fn make_set(s: &mut [i32], n: usize) -> Result<usize, Refusal>
     requires { (n ≤ set_rows) × (set_numbers ≤ length s.old) }
     ensures { Left (joined (rows_at s.old 0 n) []) s.old s.new result }
 {
-    let mut c = Joined::with(0);
+    let mut c = Ok(0);
     for i in 0..n {
         c = sets::put(s, c, Row::read(s, i * Row::NUMBERS).divided_down());
     }
@@ -102,10 +83,8 @@ fn flags_fit(s: &[i32], n: usize) -> bool
 {
     for i in 0..n {
         let f = s[i * Row::NUMBERS + Row::ENTRIES];
-        if f != 0 {
-            if f != 1 {
-                return false;
-            }
+        if f != 0 && f != 1 {
+            return false;
         }
     }
     true
@@ -114,71 +93,61 @@ fn flags_fit(s: &[i32], n: usize) -> bool
 fn variables_fit(variables: &[u8]) -> bool
     ensures { result ≡ every is_variable variables.now }
 {
-    let mut i: usize = 0;
-    while i < variables.len() {
-        let v = variables[i];
-        if v < 1 {
-            return false;
-        }
-        if 15 < v {
-            return false;
-        }
-        i += 1;
-    }
-    true
+    variables.iter().all(|v| 1 <= *v && *v < 16)
 }
 
 // The refusals that change nothing, in their order.
-fn refused_at_once(first: &[i32], second: &[i32], count: usize, variables: &[u8]) -> Outcome
+#[tactic(auto, unfolding(crate::specs::Alone::refused_at_once))]
+fn refused_at_once(
+    first: &[i32],
+    second: &[i32],
+    count: usize,
+    variables: &[u8],
+) -> Result<(), Refusal>
     ensures { result ≡ refused_at_once count variables.now first.now second.now }
 {
-    if first.len() < Set::NUMBERS {
-        return Outcome::Refused(Refusal::ShortStore);
-    }
-    if second.len() < Set::NUMBERS {
-        return Outcome::Refused(Refusal::ShortStore);
+    if first.len() < Set::NUMBERS || second.len() < Set::NUMBERS {
+        return Err(Refusal::ShortStore);
     }
     if Set::ROWS < count {
-        return Outcome::Refused(Refusal::TooManyRows);
+        return Err(Refusal::TooManyRows);
     }
-    if flags_fit(first, count) {
-        if variables_fit(variables) {
-            return Outcome::Found;
-        }
+    if flags_fit(first, count) && variables_fit(variables) {
+        return Ok(());
     }
-    Outcome::Refused(Refusal::Undeclared)
+    Err(Refusal::Undeclared)
 }
 
 // The rows made a set, and the variables removed.
-fn remove_accepted(first: &mut [i32], second: &mut [i32], count: usize, variables: &[u8]) -> Placed
-    requires { refused_at_once count variables.now first.old second.old ≡ Found }
+fn remove_accepted(
+    first: &mut [i32],
+    second: &mut [i32],
+    count: usize,
+    variables: &[u8],
+) -> Result<Placed, Refusal>
+    requires { refused_at_once count variables.now first.old second.old ≡ Ok tt }
     ensures { Moved (side_after mathlib.Core.Bool.false variables.now) (alone count variables.now first.old) first.old second.old first.new second.new result }
 {
-    let c = make_set(first, count);
-    remove_all(first, second, Placed::of(c, false), variables)
+    let rows = make_set(first, count)?;
+    let made = Placed {
+        rows,
+        second: false,
+    };
+    remove_all(first, second, Ok(made), variables)
 }
 
 // Zeros behind the rows that were found, and in all of the other store; in both on a refusal.
-fn tidy(first: &mut [i32], second: &mut [i32], s: Placed)
-    requires { s.rows * row_numbers ≤ length (pick s.second first.old second.old) }
+fn tidy(first: &mut [i32], second: &mut [i32], s: Result<Placed, Refusal>)
+    requires { rows_placed s * row_numbers ≤ length (pick (side s) first.old second.old) }
     ensures { Tidied s first.old second.old first.new second.new }
 {
-    let o = s.outcome;
-    match o {
-        Outcome::Refused(_) => {
-            sets::clear(first);
-            sets::clear(second);
-        }
-        Outcome::Found => {
-            if s.second {
-                sets::clear(first);
-                sets::clear_from(second, s.rows);
-            } else {
-                sets::clear_from(first, s.rows);
-                sets::clear(second);
-            }
-        }
-    }
+    let (in_first, in_second) = match s {
+        Ok(s) if s.second => (0, s.rows),
+        Ok(s) => (s.rows, 0),
+        Err(_) => (0, 0),
+    };
+    sets::clear_from(first, in_first);
+    sets::clear_from(second, in_second);
 }
 
 // Removal called alone: `count` rows at the front of the first store, without the variables, in the order given. The answer says which
@@ -188,69 +157,66 @@ pub fn remove_between(
     second: &mut [i32],
     count: usize,
     variables: &[u8],
-) -> Placed
+) -> Result<Placed, Refusal>
     ensures { RemovedAlone count variables.now first.old second.old first.new second.new result }
 {
-    let o = refused_at_once(first, second, count, variables);
-    match o {
-        Outcome::Refused(r) => Placed::refused(r),
-        Outcome::Found => {
-            let s = remove_accepted(first, second, count, variables);
-            tidy(first, second, s);
-            s
-        }
-    }
+    refused_at_once(first, second, count, variables)?;
+    let done = remove_accepted(first, second, count, variables);
+    tidy(first, second, done);
+    done
 }
 
-// How many numbers the part of an answer has: none where it does not fit its store.
+// How many numbers the part of an answer has: 0 where it does not fit its store, as `PartIs` says, for the part is then empty and no refusal.
+#[tactic(auto, unfolding(crate::specs::Alone::part_end))]
 fn part_end(long: usize, rows: usize) -> usize
     ensures { result ≡ part_end long rows }
 {
-    if rows <= Set::ROWS {
-        let end = rows * Row::NUMBERS;
-        if end <= long {
-            return end;
-        }
+    if rows <= Set::ROWS && rows * Row::NUMBERS <= long {
+        rows * Row::NUMBERS
+    } else {
+        0
     }
-    0
 }
 
-// The rows that an answer speaks of. Nothing can be changed through `&`, so whoever lends the stores still knows both.
-pub fn rows_of<'a>(first: &'a [i32], second: &'a [i32], done: Placed) -> &'a [i32]
+// The rows that an answer speaks of; none on a refusal. Nothing can be changed through `&`, so whoever lends the stores still knows both.
+pub fn rows_of<'a>(first: &'a [i32], second: &'a [i32], done: Result<Placed, Refusal>) -> &'a [i32]
     ensures { PartIs first.entry second.entry done result }
 {
-    if done.second {
-        let end = part_end(second.len(), done.rows);
-        return &second[0..end];
+    match done {
+        Ok(s) if s.second => {
+            let end = part_end(second.len(), s.rows);
+            &second[..end]
+        }
+        Ok(s) => {
+            let end = part_end(first.len(), s.rows);
+            &first[..end]
+        }
+        Err(_) => &first[..0],
     }
-    let end = part_end(first.len(), done.rows);
-    &first[0..end]
 }
 
-fn part<'a>(first: &'a mut [i32], second: &'a mut [i32], done: Placed) -> &'a mut [i32]
-    ensures { PartIs (as_shared first.entry) (as_shared second.entry) done (as_shared result) }
+// The same through `&mut`: Rattle has no function over both kinds of reference.
+fn part<'a>(first: &'a mut [i32], second: &'a mut [i32], s: Placed) -> &'a mut [i32]
+    ensures { PartIs (as_shared first.entry) (as_shared second.entry) (Ok s) (as_shared result) }
 {
-    if done.second {
-        let end = part_end(second.len(), done.rows);
-        return &mut second[0..end];
+    if s.second {
+        let end = part_end(second.len(), s.rows);
+        return &mut second[..end];
     }
-    let end = part_end(first.len(), done.rows);
-    &mut first[0..end]
+    let end = part_end(first.len(), s.rows);
+    &mut first[..end]
 }
 
-// Removal called alone, with the part of the store that ended with the rows. Both references are spent, so the contract gives outcome,
-// part and place; what else the stores then hold is what `remove_between`, its only writer, leaves.
+// Removal called alone, with the part of the store that ended with the rows. Both references are spent, so the contract gives the part and
+// its place, or the refusal; what else the stores then hold is what `remove_between`, its only writer, leaves.
 pub fn remove<'a>(
     first: &'a mut [i32],
     second: &'a mut [i32],
     count: usize,
     variables: &[u8],
-    outcome: &mut u8,
-) -> &'a mut [i32]
-    ensures { RemovedPart count variables.now (as_shared first.entry) (as_shared second.entry) outcome.new (as_shared result) }
+) -> Result<&'a mut [i32], Refusal>
+    ensures { RemovedPart count variables.now (as_shared first.entry) (as_shared second.entry) result }
 {
-    let done = remove_between(first, second, count, variables);
-    let o = done.outcome;
-    *outcome = o.number();
-    part(first, second, done)
+    let done = remove_between(first, second, count, variables)?;
+    Ok(part(first, second, done))
 }

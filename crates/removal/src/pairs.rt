@@ -11,9 +11,9 @@ ghost use Rattle.removal.specs.Pairs.{numbers_where, row_of, rows_of, SmallAt};
 ghost use Rattle.removal.specs.Alone.{DividedSet};
 
 use rows::{Row, Set, Settled};
-use sets::{Joined, Refusal};
+use sets::Refusal;
 
-// How many rows do not name the variable, stand below zero in it, and above.
+// How many rows do not name the variable, stand below zero in it, and above. The lists of the last two are arrays of a fixed size: there is no heap.
 #[derive(Clone, Copy)]
 struct Parts {
     untouched: usize,
@@ -72,7 +72,14 @@ fn general_pair(from: &[i32], p: usize, q: usize, v: usize) -> Settled
 }
 
 // Equal multipliers: the pair is a multiple of the plain sum.
-fn join_pair(from: &[i32], p: usize, q: usize, v: usize, to: &mut [i32], c: Joined) -> Joined
+fn join_pair(
+    from: &[i32],
+    p: usize,
+    q: usize,
+    v: usize,
+    to: &mut [i32],
+    c: Result<usize, Refusal>,
+) -> Result<usize, Refusal>
     requires { Ready to.old c × SmallAt from.now p × SmallAt from.now q × (v < entry_count) × IsPos (entry v (row_at from.now p)) }
     ensures { let x = divided_down (paired v (row_at from.now p) (row_at from.now q)) in Left (next x.fate x.row (progress to.old c)) to.old to.new result }
 {
@@ -81,53 +88,35 @@ fn join_pair(from: &[i32], p: usize, q: usize, v: usize, to: &mut [i32], c: Join
     }
     let sum = Row::read(from, p).added(Row::read(from, q));
     if sum.has_one() {
-        let e = sum.entries;
-        if entries::within_limit(e) {
+        if entries::within_limit(sum.entries) {
             let mut x = [0i32; Row::NUMBERS];
             sum.write(&mut x, 0);
             return sets::put_row(to, c, &x, 0);
         }
-        return Joined::refused(Refusal::EntryTooLarge);
+        return Err(Refusal::EntryTooLarge);
     }
     let mut y = [0i32; Row::NUMBERS];
     let fate = sum.divided_into(&mut y, 0);
     sets::put_settled(to, c, fate, &y)
 }
 
-// The pairs of one row above zero join the set. The answer goes round in two parts: whole, the compiler would carry its padding along.
+// The pairs of one row above zero join the set.
 fn join_with(
     from: &[i32],
     p: usize,
     v: usize,
     lowers: &[u8],
-    l: usize,
     to: &mut [i32],
-    c: Joined,
-) -> Joined
-    requires { Ready to.old c × SmallAt from.now p × IsPos (entry v (row_at from.now p)) × (v < entry_count) × (l ≤ length lowers.now) × All (λ j. SmallAt from.now (j * row_numbers)) (take l lowers.now) }
-    ensures { Left (put_all (map (paired v (row_at from.now p)) (rows_of from.now (take l lowers.now))) (progress to.old c)) to.old to.new result }
+    c: Result<usize, Refusal>,
+) -> Result<usize, Refusal>
+    requires { Ready to.old c × SmallAt from.now p × IsPos (entry v (row_at from.now p)) × (v < entry_count) × All (λ j. SmallAt from.now (j * row_numbers)) lowers.now }
+    ensures { Left (put_all (map (paired v (row_at from.now p)) (rows_of from.now lowers.now)) (progress to.old c)) to.old to.new result }
 {
-    let mut rows = c.rows;
-    let mut outcome = c.outcome;
-    for j in 0..l {
-        let d = join_pair(
-            from,
-            p,
-            lowers[j] as usize * Row::NUMBERS,
-            v,
-            to,
-            Joined {
-                rows: rows,
-                outcome: outcome,
-            },
-        );
-        rows = d.rows;
-        outcome = d.outcome;
+    let mut d = c;
+    for j in lowers {
+        d = join_pair(from, p, usize::from(*j) * Row::NUMBERS, v, to, d);
     }
-    Joined {
-        rows: rows,
-        outcome: outcome,
-    }
+    d
 }
 
 // All pairs do.
@@ -135,24 +124,22 @@ fn join_pairs(
     from: &[i32],
     v: usize,
     lowers: &[u8],
-    l: usize,
     uppers: &[u8],
-    u: usize,
     to: &mut [i32],
-    c: Joined,
-) -> Joined
-    requires { Ready to.old c × (v < entry_count) × (l ≤ length lowers.now) × All (λ j. SmallAt from.now (j * row_numbers)) (take l lowers.now) × (u ≤ length uppers.now) × All (λ i. SmallAt from.now (i * row_numbers) × IsPos (entry v (row_of from.now i))) (take u uppers.now) }
-    ensures { Left (put_all (pairs (paired v) (rows_of from.now (take u uppers.now)) (rows_of from.now (take l lowers.now))) (progress to.old c)) to.old to.new result }
+    c: Result<usize, Refusal>,
+) -> Result<usize, Refusal>
+    requires { Ready to.old c × (v < entry_count) × All (λ j. SmallAt from.now (j * row_numbers)) lowers.now × All (λ i. SmallAt from.now (i * row_numbers) × IsPos (entry v (row_of from.now i))) uppers.now }
+    ensures { Left (put_all (pairs (paired v) (rows_of from.now uppers.now) (rows_of from.now lowers.now)) (progress to.old c)) to.old to.new result }
 {
     let mut d = c;
-    for i in 0..u {
-        d = join_with(from, uppers[i] as usize * Row::NUMBERS, v, lowers, l, to, d);
+    for i in uppers {
+        d = join_with(from, usize::from(*i) * Row::NUMBERS, v, lowers, to, d);
     }
     d
 }
 
 // Inner step: a set without a variable, in another store. Each pair is built once: where the set is too large for more rows, a pair may still be too large itself, so 9 comes before 10.
-pub fn without(from: &[i32], n: usize, v: usize, to: &mut [i32]) -> Joined
+pub fn without(from: &[i32], n: usize, v: usize, to: &mut [i32]) -> Result<usize, Refusal>
     requires { DividedSet from.now n × (0 < v) × (v < entry_count) × (set_numbers ≤ length to.old) }
     ensures { Left (removed v (set_in from.now n)) to.old to.new result }
 {
@@ -162,11 +149,9 @@ pub fn without(from: &[i32], n: usize, v: usize, to: &mut [i32]) -> Joined
     join_pairs(
         from,
         v,
-        &lowers,
-        s.lowers,
-        &uppers,
-        s.uppers,
+        &lowers[..s.lowers],
+        &uppers[..s.uppers],
         to,
-        Joined::with(s.untouched),
+        Ok(s.untouched),
     )
 }

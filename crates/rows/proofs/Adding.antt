@@ -50,7 +50,7 @@ zero-times {k} h z = go (is_zero z) refl
         (λ f. not-both (sym e ∙ ap is_zero (eq_unscale h z (pos 0) (zero_of (k *ℤ z) f ∙ sym (*ℤ-zero k)))))
 
 all_zero-times : {k : ℤ} → IsPos k → (l : List ℤ) → all_zero (times k l) ≡ all_zero l
-unfolding all_zero every times
+unfolding all_zero times
 all_zero-times h [] = refl
 all_zero-times h (z ∷ l) = ap₂ {C = Bool} (λ a b. a && b) (zero-times h z) (all_zero-times h l)
 
@@ -90,7 +90,7 @@ divisor-times {c} h l e =
     ∙ ap (λ (g : ℕ). c * g) (sym (divisor-gcd l e))
 
 zero_rest : (l : List ℤ) → all_zero l ≡ true → all_zero (drop 1 l) ≡ true
-unfolding all_zero every
+unfolding all_zero
 zero_rest [] f = refl
 zero_rest (z ∷ l) f = and_right (is_zero z) (every is_zero l) f
 

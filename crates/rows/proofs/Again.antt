@@ -63,7 +63,7 @@ zero_back : (g : ℕ) (z : ℤ) → g ∣ nat_abs z → quot_z z (pos g) ≡ pos
 zero_back g z p e = sym (div-mul_cancel g p) ∙ ap (λ (x : ℕ). x * g) (sym (natAbs_quot z g) ∙ ap nat_abs e) ∙ zero-mul g
 
 zeros_back : (g : ℕ) (l : List ℤ) → All (λ z. g ∣ nat_abs z) l → all_zero (map (λ z. quot_z z (pos g)) l) ≡ true → all_zero l ≡ true
-unfolding all_zero every
+unfolding all_zero
 zeros_back g [] a e = refl
 zeros_back g (z ∷ l) a e =
     let x = is_zero (quot_z z (pos g)) in
@@ -85,7 +85,7 @@ still_variable r e = false_of _ (λ f. not-both (sym e ∙ zeros_back (divisor r
 
 -- ---- dividing down again
 pub again-false : divided_down false_row ≡ kept false_row
-unfolding divided_down constant all_zero every with_entry
+unfolding divided_down constant all_zero with_entry
 again-false = refl
 
 again-divided : (r : Row) → all_zero (drop 1 r.entries) ≡ false → all_small (divided r).entries ≡ true → divided_down (divided r) ≡ kept (divided r)

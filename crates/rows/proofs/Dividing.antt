@@ -8,7 +8,7 @@ use native.Mathlib.Nat.{zero-div, lt_irrefl}
 use lib.ListN.{length, drop, length-map, replicate}
 use lib.IntN.{ℤ, pos, nat_abs, ◌*ℤ◌, +ℤ_idr, *ℤ_comm, *ℤ-zero, zero-*ℤ}
 use lib.Signed.{quot_z, ◌<ℤ◌, clash_ℤ}
-use Rattle.integers.specs.Lists.{All, every}
+use Rattle.integers.specs.Lists.{All}
 use Rattle.integers.proofs.Lists.{all_head, all_tail}
 use Rattle.integers.proofs.Whole.{IsPos, is_pos, pos_of, one-*ℤ}
 use Rattle.integers.proofs.Euclid.{quot_exact}
@@ -121,7 +121,7 @@ pub of-kept : (P : Row → Type 0) (x : Settled) (t : Row) → x ≡ kept t → 
 of-kept P x t e h = subst (λ (y : Settled). IfKept P y.fate y.row) e h
 
 false-small : all_small false_row.entries ≡ true
-unfolding all_small every with_entry
+unfolding all_small with_entry
 false-small = refl
 
 pub divided_down-small : (r : Row) → IfKept (λ t. Small t.entries) (divided_down r).fate (divided_down r).row

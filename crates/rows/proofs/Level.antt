@@ -44,7 +44,7 @@ level_entry x z e =
     (or_true (is_zero z) (eqb (nat_abs z) (nat_abs x)) e)
 
 level_times : (x : ℤ) (l : List ℤ) → is_level x l ≡ true → times (pos (nat_abs x)) (map sign l) ≡ l
-unfolding is_level every times
+unfolding is_level times
 level_times x [] e = refl
 level_times x (z ∷ l) e =
     let a = is_zero z || eqb (nat_abs z) (nat_abs x) in
@@ -53,19 +53,19 @@ level_times x (z ∷ l) e =
 
 -- ---- signs are small, have a variable where the entries do, and then a unit
 signs-small : (l : List ℤ) → all_small (map sign l) ≡ true
-unfolding all_small every
+unfolding all_small
 signs-small [] = refl
 signs-small (pos zero ∷ l) = signs-small l
 signs-small (pos (suc n) ∷ l) = signs-small l
 signs-small (negsuc n ∷ l) = signs-small l
 
 signs-zero : (l : List ℤ) → all_zero (map sign l) ≡ all_zero l
-unfolding all_zero every
+unfolding all_zero
 signs-zero [] = refl
 signs-zero (z ∷ l) = ap₂ {C = Bool} (λ a b. a && b) (sign_zero z) (signs-zero l)
 
 signs-unit : (l : List ℤ) → all_zero l ≡ false → has_unit (map sign l) ≡ true
-unfolding all_zero every has_unit
+unfolding all_zero has_unit
 signs-unit [] e = not-both (sym e)
 signs-unit (pos zero ∷ l) e = signs-unit l e
 signs-unit (pos (suc n) ∷ l) e = refl

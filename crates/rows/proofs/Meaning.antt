@@ -131,7 +131,7 @@ dot-with v z l p = dot-rest v (with_entry v z l) p ∙ ap₂ (λ (s t : ℤ). s 
 
 -- ---- rows of one variable, and of none
 pub dot-zero : (l p : List ℤ) → all_zero l ≡ true → dot l p ≡ pos 0
-unfolding dot all_zero every
+unfolding dot all_zero
 dot-zero [] p e = refl
 dot-zero (a ∷ l) [] e = refl
 dot-zero (a ∷ l) (x ∷ p) e =
@@ -151,7 +151,7 @@ dot-padded (a ∷ l) [] k = dot-zeros (a ∷ l) k
 dot-padded (a ∷ l) (x ∷ p) k = ap (λ (z : ℤ). a *ℤ x +ℤ z) (dot-padded l p k)
 
 pub dot-single : (v : ℕ) (z : ℤ) (p : List ℤ) → dot (single v z).entries p ≡ z *ℤ at p v
-unfolding rest all_zero every
+unfolding rest all_zero
 dot-single v z p = dot-with v z (replicate 16 (pos 0)) p ∙ ap (λ (s : ℤ). s +ℤ z *ℤ at p v) (dot-zero (replicate 16 (pos 0)) (set p v (pos 0)) refl) ∙ +ℤ_idl (z *ℤ at p v)
 
 pub single-holds : (v : ℕ) (z : ℤ) (p : List ℤ) → Holds p (single v z) ↔ ((z *ℤ at p v) ≤ℤ pos 0)

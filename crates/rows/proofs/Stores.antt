@@ -15,7 +15,6 @@ use mir.Syntax.{w32}
 use mir.Val.{of_z}
 use Rattle.rows.specs.Rows.{entry_count, is_one, flag, numbers, row_at}
 use Rattle.rows.specs.declared.Row.{Row}
-use Rattle.integers.proofs.Loops.{front, front-all}
 use Rattle.rows.proofs.Dividing.{Wide}
 
 -- a part of a store, number by number
@@ -28,11 +27,6 @@ module _ (n at : ℕ) (s : List ℤ) where
 
   pub part-is : (l : List ℤ) → length l ≡ n → at + n ≤ length s → ((i : ℕ) → i < n → get_or l i (pos 0) ≡ get_or s (at + i) (pos 0)) → l ≡ take n (drop at s)
   part-is l e h f = ext_get_or (pos 0) l (take n (drop at s)) (e ∙ sym (length_part h)) (λ i k. let m : i < n = rw e at k in f i m ∙ sym (get_d_part i m))
-
--- a loop that copies n elements of s from an offset: at the end it is that part of s
-pub front-part : (n at : ℕ) (s o : List ℤ) → length o ≡ n → at + n ≤ length s → front (λ k. get_or s (at + k) (pos 0)) n o ≡ take n (drop at s)
-front-part n at s o h f =
-    front-all (pos 0) (λ k. get_or s (at + k) (pos 0)) n o (take n (drop at s)) h (length_part n at s f) (λ i k. sym (get_d_part n at s i k))
 
 pub flag-read : (z : ℤ) → mag z < 2 ^ 31 → eqb (of_z w32 z) 1 ≡ is_one z
 flag-read (pos n) h = refl

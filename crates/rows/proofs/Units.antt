@@ -6,7 +6,6 @@ use native.Mathlib.Omega.{arith}
 use lib.Dec.{eqb}
 use lib.ListN.{replicate}
 use lib.IntN.{ℤ, pos, nat_abs}
-use Rattle.integers.specs.Lists.{every}
 use Rattle.rows.specs.Rows.{entry_count, with_entry, single, all_small, has_unit, has_one, kept, too_large, limited, divided_down}
 use Rattle.rows.proofs.Dividing.{single_blind}
 use Rattle.rows.proofs.Adding.{has_one-limited}
@@ -20,12 +19,12 @@ with_unit (suc v) zero z e = with_unit v zero z e
 with_unit (suc v) (suc n) z e = with_unit v n z e
 
 zeros-small : (n : ℕ) → all_small (replicate n (pos 0)) ≡ true
-unfolding all_small every
+unfolding all_small
 zeros-small zero = refl
 zeros-small (suc n) = zeros-small n
 
 with-small : (v n : ℕ) (z : ℤ) → nat_abs z ≡ 1 → all_small (with_entry v z (replicate n (pos 0))) ≡ true
-unfolding all_small every with_entry
+unfolding all_small with_entry
 with-small zero zero z e = rw e
 with-small zero (suc n) z e = rw e (zeros-small n)
 with-small (suc v) zero z e = with-small v zero z e

@@ -7,8 +7,9 @@ unfoldable pub use Rattle.entries.specs.Entries.{with_entry, divisor, all_small,
 use Rattle.rows.specs.declared.Row.{Row}
 use Rattle.rows.specs.declared.Fate.TheVariants.{Kept, Gone, TooLarge}
 use Rattle.rows.specs.declared.Settled.{Settled}
-use Rattle.rows.specs.declared.Order.{Order}
-use Rattle.rows.specs.declared.Order.TheVariants.{Before, Same, After}
+use Rattle.std.specs.declared.cmp.Ordering.{Ordering}
+use Rattle.std.specs.Ordering.{ordering_then, is_eq, int_cmp, bool_cmp}
+use Rattle.std.specs.Cmp.Lexicographic.{slice_cmp}
 use Rattle.rows.specs.declared.Clock.{Clock}
 use Rattle.rows.specs.declared.Parameter.{Parameter}
 
@@ -111,32 +112,22 @@ unfoldable pub has_one : Row → Bool
 has_one r = has_unit r.entries && not (eqb (nat_abs (at r.entries 0)) 1)
 
 -- ---- the order of rows: entries 0 to 15 as signed numbers, then non-strict before strict
-abbrev pub then_by : Order → Order → Order
-then_by Before o = Before
-then_by Same o = o
-then_by After o = After
+abbrev pub then_by : Ordering → Ordering → Ordering
+then_by = ordering_then
 
-abbrev pub is_same : Order → Bool
-is_same Before = false
-is_same Same = true
-is_same After = false
+abbrev pub is_same : Ordering → Bool
+is_same = is_eq
 
-abbrev pub number_order : ℤ → ℤ → Order
-number_order x y = cond (lt_z x y) Before (cond (lt_z y x) After Same)
+abbrev pub number_order : ℤ → ℤ → Ordering
+number_order = int_cmp
 
-unfoldable pub entry_order : List ℤ → List ℤ → Order
-entry_order [] [] = Same
-entry_order [] (y ∷ m) = Before
-entry_order (x ∷ l) [] = After
-entry_order (x ∷ l) (y ∷ m) = then_by (number_order x y) (entry_order l m)
+unfoldable pub entry_order : List ℤ → List ℤ → Ordering
+entry_order = slice_cmp number_order
 
-abbrev pub flag_order : Bool → Bool → Order
-flag_order false false = Same
-flag_order false true = Before
-flag_order true false = After
-flag_order true true = Same
+abbrev pub flag_order : Bool → Bool → Ordering
+flag_order = bool_cmp
 
-unfoldable pub row_order : Row → Row → Order
+unfoldable pub row_order : Row → Row → Ordering
 row_order r s = then_by (entry_order r.entries s.entries) (flag_order r.strict s.strict)
 
 -- two rows are the same where neither stands before the other

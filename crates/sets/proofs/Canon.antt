@@ -12,12 +12,12 @@ use Rattle.integers.proofs.Lists.{all_head, all_tail, all_map, all_of, all-zip}
 use Rattle.rows.specs.declared.Row.{Row}
 use Rattle.rows.specs.declared.Fate.{Fate}
 use Rattle.rows.specs.declared.Fate.TheVariants.{Kept, Gone, TooLarge}
-use Rattle.rows.specs.declared.Order.{Order}
-use Rattle.rows.specs.declared.Order.TheVariants.{Before, Same, After}
+use Rattle.std.specs.declared.cmp.Ordering.{Ordering}
+use Rattle.std.specs.declared.cmp.Ordering.TheVariants.{Less, Equal, Greater}
 use Rattle.rows.specs.Rows.{divided_down, row_order}
 use Rattle.rows.proofs.Ordering.{row_same, row-trans, after-before, before_differs}
 use Rattle.rows.proofs.Dividing.{if_all}
-use Rattle.sets.specs.Outcomes.{Result, found, refused, and_then}
+use Rattle.sets.specs.Outcomes.{Result, Ok, Err, and_then}
 use Rattle.sets.specs.Sets.{InOrder, place, insert, put, put_settled, joined_all, joined}
 use Rattle.sets.proofs.Joining.{insert_all, joined_all_carries}
 use Rattle.sets.proofs.Ordered.{order_tail, insert-ordered, first-before}
@@ -29,7 +29,7 @@ SameMembers l k = (P : Row → Type 0) → All P l ↔ All P k
 none-some : {l : List Row} {x : Row} → SameMembers [] (x ∷ l) → ⊥
 none-some m = all_head ((m (λ x. ⊥)).0 nil)
 
-not_first : {x y : Row} {l k : List Row} → InOrder (y ∷ k) → SameMembers (x ∷ l) (y ∷ k) → row_order x y ≡ Before → ⊥
+not_first : {x y : Row} {l k : List Row} → InOrder (y ∷ k) → SameMembers (x ∷ l) (y ∷ k) → row_order x y ≡ Less → ⊥
 not_first {x} {y} {l} {k} hk m e =
     all_head ((m (λ z. z ≢ x)).1 (cons (before_differs x y e) (all_map (λ z f. before_differs x z (row-trans x y z e f)) (first-before hk)))) refl
 
@@ -50,14 +50,14 @@ same_set [] (y ∷ k) hl hk m = absurd (none-some m)
 same_set (x ∷ l) [] hl hk m = absurd (none-some (members_sym m))
 same_set (x ∷ l) (y ∷ k) hl hk m = go (row_order x y) refl (λ h n. same_set l k (order_tail hl) h n)
   where
-    go : (o : Order) → row_order x y ≡ o → (InOrder k → SameMembers l k → l ≡ k) → ◌≡◌ {A = List Row} (x ∷ l) (y ∷ k)
-    go Before e ih = absurd (not_first hk m e)
-    go Same e ih =
+    go : (o : Ordering) → row_order x y ≡ o → (InOrder k → SameMembers l k → l ≡ k) → ◌≡◌ {A = List Row} (x ∷ l) (y ∷ k)
+    go Less e ih = absurd (not_first hk m e)
+    go Equal e ih =
         let f = row_same x y e in
         let h : InOrder (x ∷ k) = subst (λ (u : Row). InOrder (u ∷ k)) (sym f) hk in
         let n : SameMembers (x ∷ l) (x ∷ k) = subst (λ (u : Row). SameMembers (x ∷ l) (u ∷ k)) (sym f) m in
         ap₂ {C = List Row} (λ a b. a ∷ b) f (ih (order_tail hk) (tail_members hl h n))
-    go After e ih = absurd (not_first hl (members_sym m) (after-before x y e))
+    go Greater e ih = absurd (not_first hl (members_sym m) (after-before x y e))
 
 -- ---- inserting in another order, or twice
 pub insert-swap : (a b : Row) (s : List Row) → InOrder s → insert a (insert b s) ≡ insert b (insert a s)
@@ -115,20 +115,20 @@ joined_parts (r ∷ l) k s = go (put_settled (divided_down r) s) (joined_parts l
   where
     go : (o : Result (List Row)) → ((t : List Row) → joined_all (l ++ k) t ≡ and_then (joined_all l t) (λ t. joined_all k t)) →
         and_then o (λ t. joined_all (l ++ k) t) ≡ and_then (and_then o (λ t. joined_all l t)) (λ t. joined_all k t)
-    go (found t) f = f t
-    go (refused n) f = refl
+    go (Ok t) f = f t
+    go (Err n) f = refl
 
-place_grows : (o : Order) (r s : Row) (l behind : List Row) → length l ≤ length behind → length (s ∷ l) ≤ length (place o r s l behind)
-place_grows Before r s l behind h = omega arith
-place_grows Same r s l behind h = omega arith
-place_grows After r s l behind h = omega arith
+place_grows : (o : Ordering) (r s : Row) (l behind : List Row) → length l ≤ length behind → length (s ∷ l) ≤ length (place o r s l behind)
+place_grows Less r s l behind h = omega arith
+place_grows Equal r s l behind h = omega arith
+place_grows Greater r s l behind h = omega arith
 
 pub insert_grows : (r : Row) (s : List Row) → length s ≤ length (insert r s)
 unfolding insert
 insert_grows r [] = omega arith
 insert_grows r (s ∷ l) = place_grows (row_order r s) r s l (insert r l) (insert_grows r l)
 
-pub joined_grows : (rs s t : List Row) → joined_all rs s ≡ found t → length s ≤ length t
+pub joined_grows : (rs s t : List Row) → joined_all rs s ≡ Ok t → length s ≤ length t
 joined_grows rs s t e =
     joined_all_carries (λ r. Unit {0}) (λ l. length s ≤ length l)
     (λ r l u h. if_all (λ q. length s ≤ length (insert q l)) (λ q. le_trans h (insert_grows q l)) (divided_down r).fate (divided_down r).row)

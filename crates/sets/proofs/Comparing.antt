@@ -1,25 +1,21 @@
 -- Numbers and rows of two stores compared, one by one: what a loop has seen of them decides the tests. Assumes nothing.
 use mathlib.Core.Path.{◌≡◌, refl, sym, ap, ap₂, ◌∙◌}
-use mathlib.Core.Bool.{Bool, true, false, ◌&&◌, and_assoc}
+use mathlib.Core.Bool.{Bool, true, false, ◌&&◌}
 use mathlib.Core.Logic.{⊎_elim}
 use mathlib.Core.List.{List, [], ◌∷◌}
-use Prim.Native.Nat.{ℕ, ◌+◌, ◌*◌, ◌^◌, ◌≤◌, ◌<◌, zero-le}
-use native.Mathlib.Nat.{eq-or-lt_of_le}
+use Prim.Native.Nat.{ℕ, ◌+◌, ◌*◌, ◌≤◌, ◌<◌, zero-le}
+use native.Mathlib.Nat.{suc_inj, suc-ne-zero, eq-or-lt_of_le}
 use native.Mathlib.Numerals.{add-one}
-use lib.Dec.{eqb}
 use lib.ListN.{length, get_or, take, drop}
 use lib.Seq.{ext_get_or}
-use lib.IntN.{ℤ, pos}
-use lib.Signed.{mag}
-use mir.Syntax.{w32}
-use mir.Val.{of_z}
-use Rattle.integers.proofs.Loops.{drop_turn, drop-done}
+use Rattle.std.specs.List.{zip}
+use Rattle.std.specs.Ordering.{int_eq}
+use Rattle.integers.specs.Lists.{every}
+use lib.IntN.{ℤ}
 use Rattle.integers.proofs.Tests.{not-both, and_left, and_right, false_of}
 use Rattle.rows.specs.declared.Row.{Row}
 use Rattle.rows.specs.Rows.{row_numbers, empty_row, number_order, numbers, row_at}
-use Rattle.rows.proofs.Blocks.{bits_order}
 use Rattle.rows.proofs.Ordering.{number_same, number_itself, order_same}
-use Rattle.rows.proofs.Stores.{get_d_part, length_part}
 use Rattle.sets.specs.Sets.{is_same, same_rows, same_numbers}
 use Rattle.sets.specs.Stores.{rows_at, Stands}
 use Rattle.sets.proofs.Stores.{length-rows_at, getD_rows_at, row-alike, stands-row}
@@ -40,22 +36,13 @@ unfolding same_numbers
 same_numbers_itself [] = refl
 same_numbers_itself (x ∷ l) = rw (number_itself x) (same_numbers_itself l)
 
--- a loop over n numbers that keeps a flag: the flag and the test of what is left
-abbrev pub rest_same : List ℤ → ℕ → List ℤ → ℕ → ℕ → ℕ → Bool
-rest_same x a y b n i = same_numbers (drop i (take n (drop a x))) (drop i (take n (drop b y)))
-
-module _ (x y : List ℤ) (a b n : ℕ) (h : a + n ≤ length x) (k : b + n ≤ length y) (i : ℕ) where
-  pub same_turn : (same : Bool) → i < n → mag (get_or x (a + i) (pos 0)) < 2 ^ 31 → mag (get_or y (b + i) (pos 0)) < 2 ^ 31 →
-      (same && eqb (of_z w32 (get_or x (a + i) (pos 0))) (of_z w32 (get_or y (b + i) (pos 0))) && rest_same x a y b n (i + 1)) ≡ (same && rest_same x a y b n i)
-  unfolding same_numbers
-  same_turn same l f g =
-      let d = drop_turn (take n (drop a x)) i (pos 0) (rw (length_part n a x h) l) in
-      let e = drop_turn (take n (drop b y)) i (pos 0) (rw (length_part n b y k) l) in
-      and_assoc same _ _ ∙ ap (λ (q : Bool). same && q) (rw (bits_order (get_or x (a + i) (pos 0)) (get_or y (b + i) (pos 0)) f g, d, e, get_d_part n a x i l, get_d_part n b y i l) refl)
-
-  pub same-done : n ≤ i → rest_same x a y b n i ≡ true
-  unfolding same_numbers
-  same-done l = rw (drop-done (take n (drop a x)) i (rw (length_part n a x h) l), drop-done (take n (drop b y)) i (rw (length_part n b y k) l)) refl
+-- two parts are the same where each pair of their numbers is
+pub zipped_same : (l m : List ℤ) → length l ≡ length m → every (λ (p : ℤ × ℤ). int_eq p.0 p.1) (zip l m) ≡ same_numbers l m
+unfolding same_numbers
+zipped_same [] [] e = refl
+zipped_same [] (y ∷ m) e = absurd (suc-ne-zero (length m) (sym e))
+zipped_same (x ∷ l) [] e = absurd (suc-ne-zero (length l) e)
+zipped_same (x ∷ l) (y ∷ m) e = ap (λ (b : Bool). int_eq x y && b) (zipped_same l m (suc_inj e))
 
 -- ---- rows
 module _ (x y : List ℤ) (a b n : ℕ) where

@@ -7,9 +7,8 @@ use lib.ListN.{length}
 use lib.IntN.{ℤ}
 use Rattle.rows.specs.declared.Row.{Row}
 use Rattle.rows.specs.Rows.{set_numbers}
-use Rattle.sets.specs.declared.Joined.{Joined}
-use Rattle.sets.specs.Outcomes.{Result, found}
-use Rattle.sets.specs.Stores.{zeroed, Left}
+use Rattle.sets.specs.Stores.{Joined, zeroed, Left}
+use Rattle.sets.specs.Outcomes.{Result, Ok}
 use Rattle.sets.proofs.Stores.{zeroed-touched}
 use Rattle.sets.proofs.Steps.{Proper, left-touched}
 
@@ -20,8 +19,8 @@ module _ (x : Result (List Row)) (s s₁ s₂ : List ℤ) (r₁ r₂ : Joined) (
   pub only-cleared : Proper x → set_numbers ≤ length s → zeroed s₁ ≡ zeroed s₂
   only-cleared g l = zeroed-touched l (left-touched x s s₁ r₁ g l h) ∙ sym (zeroed-touched l (left-touched x s s₂ r₂ g l k))
 
-  pub only_store : (t : List Row) → x ≡ found t → s₁ ≡ s₂
+  pub only_store : (t : List Row) → x ≡ Ok t → s₁ ≡ s₂
   only_store t e =
-      let a : Left (found t) s s₁ r₁ = subst (λ (y : Result (List Row)). Left y s s₁ r₁) e h in
-      let b : Left (found t) s s₂ r₂ = subst (λ (y : Result (List Row)). Left y s s₂ r₂) e k in
+      let a : Left (Ok t) s s₁ r₁ = subst (λ (y : Result (List Row)). Left y s s₁ r₁) e h in
+      let b : Left (Ok t) s s₂ r₂ = subst (λ (y : Result (List Row)). Left y s s₂ r₂) e k in
       a.store ∙ sym b.store

@@ -16,15 +16,12 @@ use Rattle.rows.specs.declared.Fate.{Fate}
 use Rattle.rows.specs.declared.Fate.TheVariants.{Kept, Gone, TooLarge}
 use Rattle.rows.specs.Rows.{row_numbers, set_rows, set_numbers, Small, numbers, kept, divided_down, row_at, with_row}
 use Rattle.rows.proofs.Dividing.{Wide, IfKept, divided_down-small, divided_down-wide}
-use Rattle.sets.specs.declared.Place.TheVariants.{Standing, At}
 use Rattle.sets.specs.declared.Refusal.{Refusal}
 use Rattle.sets.specs.declared.Refusal.TheVariants.{EntryTooLarge, TooManyRows}
-use Rattle.sets.specs.declared.Outcome.{Outcome}
-use Rattle.sets.specs.declared.Outcome.TheVariants.{Found, Refused}
-use Rattle.sets.specs.declared.Joined.{Joined}
-use Rattle.sets.specs.Outcomes.{Result, found, refused, and_then}
+use Rattle.std.specs.declared.option.Option.TheVariants.{None, Some}
+use Rattle.sets.specs.Outcomes.{Result, Ok, Err, and_then}
+use Rattle.sets.specs.Stores.{Joined, numbers_of, rows_at, with_rows, set_in, HoldsSet, Touched, Left, next, progress, StandingBy, Ready, put_all}
 use Rattle.sets.specs.Sets.{InOrder, insert, place_of, put, joined_all, within_limit, joined}
-use Rattle.sets.specs.Stores.{numbers_of, rows_at, with_rows, set_in, HoldsSet, counted, Touched, Left, next, so_far, progress, StandingBy, Ready, put_all}
 use Rattle.sets.proofs.Parts.{drop-take}
 use Rattle.sets.proofs.Stores.{length-numbers_of, numbers_of-append, numbers_of-take, numbers_of-drop, length-rows_at, rows-with_rows, with_rows_itself, with_rows_twice, holds-with_rows, holds-wide, touched_none, touched_twice, touched-with_rows}
 use Rattle.sets.proofs.Ordered.{insert-ordered}
@@ -34,23 +31,17 @@ use Rattle.sets.proofs.Places.{insert-at, insert-standing, insert_last, place-wi
 use Rattle.sets.proofs.Moving.{written-between}
 
 -- ---- at most 128 rows, or 10
-pub within-few : (t : List Row) → length t ≤ set_rows → within_limit t ≡ found t
+pub within-few : (t : List Row) → length t ≤ set_rows → within_limit t ≡ Ok t
 unfolding within_limit
 within-few t h = rw (le-leb (length t) set_rows h)
 
-pub within_many : (t : List Row) → set_rows < length t → within_limit t ≡ refused TooManyRows
+pub within_many : (t : List Row) → set_rows < length t → within_limit t ≡ Err TooManyRows
 unfolding within_limit
 within_many t h = rw (lt-leb (length t) set_rows h)
 
-within-is : (t : List Row) → within_limit t ≡ cond (leb (length t) set_rows) (found t) (refused TooManyRows)
+within-is : (t : List Row) → within_limit t ≡ cond (leb (length t) set_rows) (Ok t) (Err TooManyRows)
 unfolding within_limit
 within-is t = refl
-
-pub counted-few : (n : ℕ) → n ≤ set_rows → counted n ≡ record { rows = n; outcome = Found }
-counted-few n h = rw (le-leb n set_rows h)
-
-pub counted_many : (n : ℕ) → set_rows < n → counted n ≡ record { rows = 0; outcome = Refused TooManyRows }
-counted_many n h = rw (lt-leb n set_rows h)
 
 -- ---- a row inserted
 length-between : (r : Row) (l : List Row) (k : ℕ) → k ≤ length l → length (take k l ++ r ∷ drop k l) ≡ length l + 1
@@ -64,12 +55,12 @@ module _ (s : List ℤ) (n : ℕ) (r : Row) (holds : HoldsSet s n) where
   count = length-rows_at s 0 n
 
   -- it stands there: nothing changes
-  pub left-standing : Standing ≡ place_of r rows → Left (within_limit (insert r rows)) s s (counted n)
+  pub left-standing : None ≡ place_of r rows → Left (within_limit (insert r rows)) s s (Ok n)
   left-standing e =
-      rw (insert-standing r rows e, within-few rows (rw count holds.few), counted-few n holds.few)
+      rw (insert-standing r rows e, within-few rows (rw count holds.few))
       (record { answer = rw count refl; store = sym (with_rows_itself s n holds.stands) })
 
-  module _ (k : ℕ) (place : At k ≡ place_of r rows) where
+  module _ (k : ℕ) (place : Some k ≡ place_of r rows) where
     within : k ≤ n
     within = rw count at (place-within r rows k place)
 
@@ -77,8 +68,8 @@ module _ (s : List ℤ) (n : ℕ) (r : Row) (holds : HoldsSet s n) where
     grown = rw (insert-at r rows k place, length-between r rows k (place-within r rows k place), count)
 
     -- it would be the 129th
-    pub left_full : n ≡ set_rows → Left (within_limit (insert r rows)) s s (counted (n + 1))
-    left_full e = rw (within_many (insert r rows) (omega (arith, grown)), counted_many (n + 1) (omega arith)) (record { answer = refl; store = touched_none s })
+    pub left_full : n ≡ set_rows → Left (within_limit (insert r rows)) s s (Err TooManyRows)
+    left_full e = rw (within_many (insert r rows) (omega (arith, grown))) (record { answer = refl; store = touched_none s })
 
     -- the rows behind it move up, and it is written between
     module _ (wide : Wide r) (few : n < set_rows) where
@@ -108,13 +99,13 @@ module _ (s : List ℤ) (n : ℕ) (r : Row) (holds : HoldsSet s n) where
 
       pub left_inserted : (t u : List ℤ) →
           t ≡ take (k * row_numbers + row_numbers) s ++ take (n * row_numbers - k * row_numbers) (drop (k * row_numbers) s) ++ drop (n * row_numbers + row_numbers) s →
-          u ≡ with_row t (k * row_numbers) r → Left (within_limit (insert r rows)) s u (counted (n + 1))
+          u ≡ with_row t (k * row_numbers) r → Left (within_limit (insert r rows)) s u (Ok (n + 1))
       unfolding with_rows
       left_inserted t u e f =
           let a = k * row_numbers in
           let b = n * row_numbers in
           let room : b + row_numbers ≤ length s = omega (arith, holds.long) in
-          rw (within-few (insert r rows) (omega (arith, grown)), counted-few (n + 1) (omega arith))
+          rw (within-few (insert r rows) (omega (arith, grown)))
           (record {
             answer = rw grown refl;
             store =
@@ -123,114 +114,114 @@ module _ (s : List ℤ) (n : ℕ) (r : Row) (holds : HoldsSet s n) where
           })
 
 -- ---- a settled row put
-so_far-left : (s : List ℤ) (n : ℕ) (o : Outcome) → StandingBy s n o → Left (so_far s n o) s s (record { rows = n; outcome = o })
-so_far-left s n Found h = record { answer = rw length-rows_at refl; store = sym (with_rows_itself s n h.stands) }
-so_far-left s n (Refused q) h = record { answer = ap (λ (k : ℕ). record { rows = k; outcome = Refused q }) h; store = touched_none s }
-
 -- where nothing is put, all is as it was
+standing-left : (s : List ℤ) (c : Joined) → StandingBy s c → Left (progress s c) s s c
+standing-left s (Ok n) h = record { answer = rw length-rows_at refl; store = sym (with_rows_itself s n h.stands) }
+standing-left s (Err q) h = record { answer = refl; store = touched_none s }
+
 pub ready_left : (s : List ℤ) (c : Joined) → Ready s c → Left (progress s c) s s c
-ready_left s c h = so_far-left s c.rows c.outcome h.holds
+ready_left s c h = standing-left s c h.holds
 
 -- by what became of the row, and by the outcome so far
 module _ (s : List ℤ) (c : Joined) (r : Row) where
   pub put-gone : (f : Fate) → Ready s c → f ≡ Gone → Left (next f r (progress s c)) s s c
   put-gone f h e = rw e (ready_left s c h)
 
-  pub put_large : (f : Fate) → f ≡ TooLarge → Left (next f r (progress s c)) s s (record { rows = 0; outcome = Refused EntryTooLarge })
+  pub put_large : (f : Fate) → f ≡ TooLarge → Left (next f r (progress s c)) s s (Err EntryTooLarge)
   put_large f e = rw e (record { answer = refl; store = touched_none s })
 
-  pub put_refused : Ready s c → (q : Refusal) → c.outcome ≡ Refused q → Left (next Kept r (progress s c)) s s c
-  put_refused h q d = rw d (rw d at (ready_left s c h))
+  pub put_refused : (q : Refusal) → c ≡ Err q → Left (next Kept r (progress s c)) s s (Err q)
+  put_refused q d = rw d (record { answer = refl; store = touched_none s })
 
-  pub put_inserted : c.outcome ≡ Found → (s' : List ℤ) (x : Joined) → Left (within_limit (insert r (set_in s c.rows))) s s' x → Left (next Kept r (progress s c)) s s' x
-  put_inserted d s' x h = rw d h
+  pub put_inserted : (n : ℕ) → c ≡ Ok n → (s' : List ℤ) (x : Joined) → Left (within_limit (insert r (set_in s n))) s s' x → Left (next Kept r (progress s c)) s s' x
+  put_inserted n d s' x h = rw d h
 
-pub ready_start : {s : List ℤ} {n : ℕ} → HoldsSet s n → Ready s (record { rows = n; outcome = Found })
+pub ready_start : {s : List ℤ} {n : ℕ} → HoldsSet s n → Ready s (Ok n)
 ready_start h = record { long = h.long; holds = h }
 
-pub ready_holds : (s : List ℤ) (c : Joined) → Ready s c → c.outcome ≡ Found → HoldsSet s c.rows
-ready_holds s c h e = rw e at h.holds
+pub ready_holds : (s : List ℤ) (c : Joined) (n : ℕ) → Ready s c → c ≡ Ok n → HoldsSet s n
+ready_holds s c n h e = rw e at h.holds
 
 -- ---- what a step leaves for the next: a set that may stand in a store, or a refusal
 abbrev pub IsSet : List Row → Type 0
 IsSet t = InOrder t × All (λ r. Small r.entries) t × All Wide t × (length t ≤ set_rows)
 
 abbrev pub Proper : Result (List Row) → Type 0
-Proper (found t) = IsSet t
-Proper (refused q) = Unit {0}
+Proper (Ok t) = IsSet t
+Proper (Err q) = Unit {0}
 
 pub set_in-store : {s : List ℤ} {n : ℕ} → HoldsSet s n → IsSet (set_in s n)
 set_in-store {s} {n} h = (h.ordered, h.small, holds-wide h, rw length-rows_at h.few)
 
-so_far_proper : (s : List ℤ) (n : ℕ) (o : Outcome) → StandingBy s n o → Proper (so_far s n o)
-so_far_proper s n Found h = set_in-store h
-so_far_proper s n (Refused q) h = tt
+standing_proper : (s : List ℤ) (c : Joined) → StandingBy s c → Proper (progress s c)
+standing_proper s (Ok n) h = set_in-store h
+standing_proper s (Err q) h = tt
 
 pub ready_proper : (s : List ℤ) (c : Joined) → Ready s c → Proper (progress s c)
-ready_proper s c h = so_far_proper s c.rows c.outcome h.holds
+ready_proper s c h = standing_proper s c h.holds
 
 -- the answer and the store of a step say its result
 pub left-progress : (x : Result (List Row)) (s s' : List ℤ) (c : Joined) → Proper x → Left x s s' c → progress s' c ≡ x
-left-progress (found t) s s' c g h =
-    rw (h.answer, h.store) (ap {B = Result (List Row)} found (rows-with_rows t s g.2))
-left-progress (refused q) s s' c g h = rw h.answer refl
+left-progress (Ok t) s s' c g h =
+    rw (h.answer, h.store) (ap {B = Result (List Row)} Ok (rows-with_rows t s g.2))
+left-progress (Err q) s s' c g h = rw h.answer refl
 
 pub left-touched : (x : Result (List Row)) (s s' : List ℤ) (c : Joined) → Proper x → set_numbers ≤ length s → Left x s s' c → Touched s s'
-left-touched (found t) s s' c g l h = rw h.store (touched-with_rows t s g.2 g.3 l)
-left-touched (refused q) s s' c g l h = h.store
+left-touched (Ok t) s s' c g l h = rw h.store (touched-with_rows t s g.2 g.3 l)
+left-touched (Err q) s s' c g l h = h.store
 
 pub left_ready : (x : Result (List Row)) (s s' : List ℤ) (c : Joined) → Proper x → set_numbers ≤ length s → Left x s s' c → Ready s' c
-left_ready (found t) s s' c g l h =
+left_ready (Ok t) s s' c g l h =
     record {
-      long = rw (left-touched (found t) s s' c g l h).long l;
+      long = rw (left-touched (Ok t) s s' c g l h).long l;
       holds = rw (h.answer, h.store) (holds-with_rows t s g.0 g.1 g.2 g.3 l);
     }
-left_ready (refused q) s s' c g l h = record { long = rw h.store.long l; holds = rw h.answer refl }
+left_ready (Err q) s s' c g l h = record { long = rw h.store.long l; holds = rw h.answer tt }
 
 -- two steps one after the other: a set that is found has at least the rows that were there
 abbrev pub Grows : Result (List Row) → Result (List Row) → Type 0
-Grows x (refused q) = Unit {0}
-Grows (found t) (found u) = length t ≤ length u
-Grows (refused q) (found u) = ⊥
+Grows x (Err q) = Unit {0}
+Grows (Ok t) (Ok u) = length t ≤ length u
+Grows (Err q) (Ok u) = ⊥
 
 pub left_twice : (x y : Result (List Row)) (s s' s'' : List ℤ) (c d : Joined) → Proper x → Proper y → Grows x y → set_numbers ≤ length s → Left x s s' c → Left y s' s'' d → Left y s s'' d
-left_twice (found t) (found u) s s' s'' c d f g m l h k =
+left_twice (Ok t) (Ok u) s s' s'' c d f g m l h k =
     let e : length (numbers_of t) ≤ length (numbers_of u) = omega (arith, length-numbers_of f.2, length-numbers_of g.2) in
     record { answer = k.answer; store = k.store ∙ ap (with_rows u) h.store ∙ with_rows_twice t u s e }
-left_twice (refused q) (found u) s s' s'' c d f g m l h k = absurd m
-left_twice (found t) (refused p) s s' s'' c d f g m l h k = record { answer = k.answer; store = touched_twice (left-touched (found t) s s' c f l h) k.store }
-left_twice (refused q) (refused p) s s' s'' c d f g m l h k = record { answer = k.answer; store = touched_twice h.store k.store }
+left_twice (Err q) (Ok u) s s' s'' c d f g m l h k = absurd m
+left_twice (Ok t) (Err p) s s' s'' c d f g m l h k = record { answer = k.answer; store = touched_twice (left-touched (Ok t) s s' c f l h) k.store }
+left_twice (Err q) (Err p) s s' s'' c d f g m l h k = record { answer = k.answer; store = touched_twice h.store k.store }
 
 -- ---- one row more
 within_proper : (t : List Row) → InOrder t → All (λ r. Small r.entries) t → All Wide t → Proper (within_limit t)
 unfolding within_limit
 within_proper t o m w = go (leb (length t) set_rows) refl
   where
-    go : (b : Bool) → leb (length t) set_rows ≡ b → Proper (cond b (found t) (refused TooManyRows))
+    go : (b : Bool) → leb (length t) set_rows ≡ b → Proper (cond b (Ok t) (Err TooManyRows))
     go true e = (o, m, w, leb-true (length t) set_rows e)
     go false e = tt
 
-within_grows : (t u : List Row) → length t ≤ length u → Grows (found t) (within_limit u)
+within_grows : (t u : List Row) → length t ≤ length u → Grows (Ok t) (within_limit u)
 unfolding within_limit
 within_grows t u h = go (leb (length u) set_rows)
   where
-    go : (b : Bool) → Grows (found t) (cond b (found u) (refused TooManyRows))
+    go : (b : Bool) → Grows (Ok t) (cond b (Ok u) (Err TooManyRows))
     go true = h
     go false = tt
 
 pub next_proper : (f : Fate) (r : Row) (x : Result (List Row)) → IfKept (λ q. Small q.entries) f r → IfKept Wide f r → Proper x → Proper (next f r x)
-next_proper Kept r (found t) m w g = within_proper (insert r t) (insert-ordered r t g.0) ((insert_all r t).1 (m, g.1)) ((insert_all r t).1 (w, g.2))
-next_proper Kept r (refused q) m w g = tt
+next_proper Kept r (Ok t) m w g = within_proper (insert r t) (insert-ordered r t g.0) ((insert_all r t).1 (m, g.1)) ((insert_all r t).1 (w, g.2))
+next_proper Kept r (Err q) m w g = tt
 next_proper Gone r x m w g = g
 next_proper TooLarge r x m w g = tt
 
 grows_itself : (x : Result (List Row)) → Grows x x
-grows_itself (found t) = le_refl (length t)
-grows_itself (refused q) = tt
+grows_itself (Ok t) = le_refl (length t)
+grows_itself (Err q) = tt
 
 next_grows : (f : Fate) (r : Row) (x : Result (List Row)) → Grows x (next f r x)
-next_grows Kept r (found t) = within_grows t (insert r t) (insert_grows r t)
-next_grows Kept r (refused q) = tt
+next_grows Kept r (Ok t) = within_grows t (insert r t) (insert_grows r t)
+next_grows Kept r (Err q) = tt
 next_grows Gone r x = grows_itself x
 next_grows TooLarge r x = tt
 
@@ -252,40 +243,40 @@ module _ (f : Fate) (r : Row) (small : IfKept (λ q. Small q.entries) f r) (wide
       (left_twice (progress s c) (next f r (progress s c)) s₀ s s' c c' (ready_proper s c ready) proper (next_grows f r (progress s c)) l h put)
 
 -- 9 stays, whatever comes
-pub put_all_large : (rs : List Row) → put_all rs (refused EntryTooLarge) ≡ refused EntryTooLarge
+pub put_all_large : (rs : List Row) → put_all rs (Err EntryTooLarge) ≡ Err EntryTooLarge
 unfolding put_all
 put_all_large [] = refl
 put_all_large (r ∷ rs) = go (divided_down r).fate (put_all_large rs)
   where
-    go : (f : Fate) → put_all rs (refused EntryTooLarge) ≡ refused EntryTooLarge → put_all rs (next f (divided_down r).row (refused EntryTooLarge)) ≡ refused EntryTooLarge
+    go : (f : Fate) → put_all rs (Err EntryTooLarge) ≡ Err EntryTooLarge → put_all rs (next f (divided_down r).row (Err EntryTooLarge)) ≡ Err EntryTooLarge
     go Kept e = e
     go Gone e = e
     go TooLarge e = e
 
 -- too many rows stay too many, unless 9 comes
-pub put_all_many : (rs t : List Row) → set_rows < length t → put_all rs (refused TooManyRows) ≡ joined rs t
+pub put_all_many : (rs t : List Row) → set_rows < length t → put_all rs (Err TooManyRows) ≡ joined rs t
 unfolding put_all joined joined_all and_then
 put_all_many [] t h = sym (within_many t h)
 put_all_many (r ∷ rs) t h = go (divided_down r).fate (divided_down r).row (put_all_many rs)
   where
-    go : (f : Fate) (q : Row) → ((u : List Row) → set_rows < length u → put_all rs (refused TooManyRows) ≡ joined rs u) →
-        put_all rs (next f q (refused TooManyRows)) ≡ and_then (and_then (put f q t) (λ u. joined_all rs u)) within_limit
+    go : (f : Fate) (q : Row) → ((u : List Row) → set_rows < length u → put_all rs (Err TooManyRows) ≡ joined rs u) →
+        put_all rs (next f q (Err TooManyRows)) ≡ and_then (and_then (put f q t) (λ u. joined_all rs u)) within_limit
     go Kept q ih = ih (insert q t) (omega (arith, insert_grows q t))
     go Gone q ih = ih t h
     go TooLarge q ih = put_all_large rs
 
-pub joined-put_all : (rs t : List Row) → length t ≤ set_rows → put_all rs (found t) ≡ joined rs t
+pub joined-put_all : (rs t : List Row) → length t ≤ set_rows → put_all rs (Ok t) ≡ joined rs t
 unfolding put_all joined joined_all and_then
 joined-put_all [] t h = sym (within-few t h)
 joined-put_all (r ∷ rs) t h = go (divided_down r).fate (divided_down r).row (joined-put_all rs)
   where
-    more : (u : List Row) (b : Bool) → leb (length u) set_rows ≡ b → ((u : List Row) → length u ≤ set_rows → put_all rs (found u) ≡ joined rs u) →
-        put_all rs (cond b (found u) (refused TooManyRows)) ≡ joined rs u
+    more : (u : List Row) (b : Bool) → leb (length u) set_rows ≡ b → ((u : List Row) → length u ≤ set_rows → put_all rs (Ok u) ≡ joined rs u) →
+        put_all rs (cond b (Ok u) (Err TooManyRows)) ≡ joined rs u
     more u true e ih = ih u (leb-true (length u) set_rows e)
     more u false e ih = put_all_many rs u (leb-false (length u) set_rows e)
 
-    go : (f : Fate) (q : Row) → ((u : List Row) → length u ≤ set_rows → put_all rs (found u) ≡ joined rs u) →
-        put_all rs (next f q (found t)) ≡ and_then (and_then (put f q t) (λ u. joined_all rs u)) within_limit
+    go : (f : Fate) (q : Row) → ((u : List Row) → length u ≤ set_rows → put_all rs (Ok u) ≡ joined rs u) →
+        put_all rs (next f q (Ok t)) ≡ and_then (and_then (put f q t) (λ u. joined_all rs u)) within_limit
     go Kept q ih = ap (put_all rs) (within-is (insert q t)) ∙ more (insert q t) (leb (length (insert q t)) set_rows) refl ih
     go Gone q ih = ih t h
     go TooLarge q ih = put_all_large rs
@@ -299,13 +290,13 @@ put_all_proper (r ∷ rs) x (cons h w) g =
     (next_proper (divided_down r).fate (divided_down r).row x (divided_down-small r) (divided_down-wide r h) g)
 
 pub joined_proper : (rs t : List Row) → All Wide rs → IsSet t → Proper (joined rs t)
-joined_proper rs t w g = rw (← joined-put_all rs t g.3) (put_all_proper rs (found t) w g)
+joined_proper rs t w g = rw (← joined-put_all rs t g.3) (put_all_proper rs (Ok t) w g)
 
 grows_twice : (x y z : Result (List Row)) → Grows x y → Grows y z → Grows x z
-grows_twice x y (refused q) h k = tt
-grows_twice (found t) (found u) (found v) h k = le_trans h k
-grows_twice (refused p) (found u) (found v) h k = h
-grows_twice x (refused q) (found v) h k = absurd k
+grows_twice x y (Err q) h k = tt
+grows_twice (Ok t) (Ok u) (Ok v) h k = le_trans h k
+grows_twice (Err p) (Ok u) (Ok v) h k = h
+grows_twice x (Err q) (Ok v) h k = absurd k
 
 pub put_all_grows : (rs : List Row) (x : Result (List Row)) → Grows x (put_all rs x)
 unfolding put_all
@@ -337,14 +328,14 @@ put_all-append [] m x = refl
 put_all-append (r ∷ l) m x = put_all-append l m (next (divided_down r).fate (divided_down r).row x)
 
 -- ---- a set whose rows are divided down joins the empty one as it stands: each row is put behind the others
-joined-behind : (s l : List Row) → InOrder (s ++ l) → All (λ r. divided_down r ≡ kept r) l → joined_all l s ≡ found (s ++ l)
+joined-behind : (s l : List Row) → InOrder (s ++ l) → All (λ r. divided_down r ≡ kept r) l → joined_all l s ≡ Ok (s ++ l)
 unfolding joined_all and_then
-joined-behind s [] h a = ap {B = Result (List Row)} found (sym (append-nil s))
+joined-behind s [] h a = ap {B = Result (List Row)} Ok (sym (append-nil s))
 joined-behind s (r ∷ l) h (cons e a) =
     rw (e, insert_last s r l h)
-    (joined-behind (s ++ r ∷ []) l (rw (append_snoc s r l) h) a ∙ ap {B = Result (List Row)} found (append_snoc s r l))
+    (joined-behind (s ++ r ∷ []) l (rw (append_snoc s r l) h) a ∙ ap {B = Result (List Row)} Ok (append_snoc s r l))
 
-pub joined_itself : (l : List Row) → InOrder l → All (λ r. divided_down r ≡ kept r) l → length l ≤ set_rows → joined l [] ≡ found l
+pub joined_itself : (l : List Row) → InOrder l → All (λ r. divided_down r ≡ kept r) l → length l ≤ set_rows → joined l [] ≡ Ok l
 unfolding joined and_then
 joined_itself l o a h = rw (joined-behind [] l o a) (within-few l h)
 
@@ -370,5 +361,5 @@ module _ (from : List ℤ) (at m i : ℕ) where
   unfolding put_all
   put_all-done h x = rw (rows-done h)
 
-pub put_all-start : (from : List ℤ) (at m : ℕ) (t : List Row) → length t ≤ set_rows → put_all (rows_at from (at + 0 * row_numbers) (m - 0)) (found t) ≡ joined (rows_at from at m) t
+pub put_all-start : (from : List ℤ) (at m : ℕ) (t : List Row) → length t ≤ set_rows → put_all (rows_at from (at + 0 * row_numbers) (m - 0)) (Ok t) ≡ joined (rows_at from at m) t
 put_all-start from at m t h = rw (add-zero, sub-zero) (joined-put_all (rows_at from at m) t h)

@@ -1,9 +1,9 @@
 -- The numbers of the outcomes (rules, "Numbers of the outcomes"), and steps that may be refused.
-use Rattle.std.specs.Prelude.{ℕ}
+use Rattle.std.specs.Prelude.{ℕ, ⊤}
+use Rattle.std.specs.declared.result.Result as result
+pub use Rattle.std.specs.declared.result.Result.TheVariants.{Ok, Err}
 use Rattle.sets.specs.declared.Refusal.{Refusal}
 use Rattle.sets.specs.declared.Refusal.TheVariants.{NoFrame, Misplaced, HeaderRange, ReferenceRange, Undeclared, WrongTerms, InitialBroken, InvariantBroken, EntryTooLarge, TooManyRows, NoRoom, BudgetUsed, ShortStore}
-use Rattle.sets.specs.declared.Outcome.{Outcome}
-use Rattle.sets.specs.declared.Outcome.TheVariants.{Found, Refused}
 
 abbrev pub refusal_number : Refusal → ℕ
 refusal_number NoFrame = 1  -- input too long, or a line that is no frame
@@ -20,15 +20,18 @@ refusal_number NoRoom = 11  -- row store or roll cannot take the next kept state
 refusal_number BudgetUsed = 12  -- a successor is due and the budget is used
 refusal_number ShortStore = 13  -- a work store or the result store is below 2,176 numbers
 
+-- found, or the refusal
+abbrev pub Outcome : Type 0
+Outcome = result.Result ⊤ Refusal
+
 abbrev pub outcome_number : Outcome → ℕ
-outcome_number Found = 0
-outcome_number (Refused r) = refusal_number r
+outcome_number (Ok _) = 0
+outcome_number (Err r) = refusal_number r
 
 -- ---- a step finds something or is refused; a refusal ends what follows
-pub data Result (A : Type 0) : Type 0 where
-  found : A → Result A
-  refused : Refusal → Result A
+abbrev pub Result : Type 0 → Type 0
+Result A = result.Result A Refusal
 
 unfoldable pub and_then : {A B : Type 0} → Result A → (A → Result B) → Result B
-and_then (found a) f = f a
-and_then (refused r) f = refused r
+and_then (Ok a) f = f a
+and_then (Err r) f = Err r

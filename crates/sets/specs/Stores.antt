@@ -1,15 +1,12 @@
 -- Rows in lent stores (rules, "Rows and sets" and "Numbers of the outcomes"): 17 numbers a row, from the front.
-use Rattle.std.specs.Prelude.{◌≡◌, cond, List, [], ◌∷◌, ◌++◌, ℕ, zero, suc, ◌+◌, ◌*◌, ◌/◌, ◌≤◌, leb, length, take, drop, replicate, ℤ, pos}
+use Rattle.std.specs.Prelude.{◌≡◌, List, [], ◌∷◌, ◌++◌, ℕ, zero, suc, ◌+◌, ◌*◌, ◌/◌, ◌≤◌, length, take, drop, replicate, ℤ, pos, ⊤}
 use Rattle.integers.specs.Lists.{All}
 use Rattle.rows.specs.declared.Row.{Row}
 use Rattle.rows.specs.declared.Fate.{Fate}
 use Rattle.rows.specs.declared.Fate.TheVariants.{Kept, Gone, TooLarge}
 use Rattle.rows.specs.Rows.{row_numbers, set_rows, set_numbers, Small, divided_down, numbers, row_at}
-use Rattle.sets.specs.declared.Outcome.{Outcome}
-use Rattle.sets.specs.declared.Outcome.TheVariants.{Found, Refused}
-use Rattle.sets.specs.declared.Refusal.TheVariants.{EntryTooLarge, TooManyRows}
-use Rattle.sets.specs.declared.Joined.{Joined}
-use Rattle.sets.specs.Outcomes.{Result, found, refused}
+use Rattle.sets.specs.Outcomes.{Result, Ok, Err}
+use Rattle.sets.specs.declared.Refusal.TheVariants.{EntryTooLarge}
 use Rattle.sets.specs.Sets.{InOrder, insert, within_limit}
 
 -- the numbers of a list of rows, one row after the other
@@ -52,13 +49,12 @@ pub record HoldsSet (s : List ℤ) (n : ℕ) : Type 0 where
   pub small : All (λ r. Small r.entries) (set_in s n)
 
 -- ---- what a step on a set leaves: its rows counted, or the refusal; and the store that it wrote
-abbrev pub answer_of : Result (List Row) → Joined
-answer_of (found t) = record { rows = length t; outcome = Found }
-answer_of (refused r) = record { rows = 0; outcome = Refused r }
+abbrev pub Joined : Type 0
+Joined = Result ℕ
 
--- so many rows, or 10
-abbrev pub counted : ℕ → Joined
-counted n = cond (leb n set_rows) (record { rows = n; outcome = Found }) (record { rows = 0; outcome = Refused TooManyRows })
+abbrev pub answer_of : Result (List Row) → Joined
+answer_of (Ok t) = Ok (length t)
+answer_of (Err r) = Err r
 
 -- only the first 2,176 numbers may have changed
 pub record Touched (s s' : List ℤ) : Type 0 where
@@ -67,8 +63,8 @@ pub record Touched (s s' : List ℤ) : Type 0 where
 
 -- found: the set at the front, the rest as it was. Refused: whoever asked for the step clears the store
 abbrev pub StoreAfter : Result (List Row) → List ℤ → List ℤ → Type 0
-StoreAfter (found t) s s' = s' ≡ with_rows t s
-StoreAfter (refused r) s s' = Touched s s'
+StoreAfter (Ok t) s s' = s' ≡ with_rows t s
+StoreAfter (Err r) s s' = Touched s s'
 
 pub record Left (x : Result (List Row)) (s s' : List ℤ) (r : Joined) : Type 0 where
   pub answer : r ≡ answer_of x
@@ -76,10 +72,10 @@ pub record Left (x : Result (List Row)) (s s' : List ℤ) (r : Joined) : Type 0 
 
 -- ---- joining row by row: the set so far, or a refusal. Once the set is too large only 9 can still come
 abbrev pub next : Fate → Row → Result (List Row) → Result (List Row)
-next Kept r (found t) = within_limit (insert r t)
-next Kept r (refused q) = refused q
+next Kept r (Ok t) = within_limit (insert r t)
+next Kept r (Err q) = Err q
 next Gone r x = x
-next TooLarge r x = refused EntryTooLarge
+next TooLarge r x = Err EntryTooLarge
 
 -- rows that join one after the other
 unfoldable pub put_all : List Row → Result (List Row) → Result (List Row)
@@ -87,18 +83,15 @@ put_all [] x = x
 put_all (r ∷ rs) x = put_all rs (next (divided_down r).fate (divided_down r).row x)
 
 -- what an answer says of the store
-abbrev pub so_far : List ℤ → ℕ → Outcome → Result (List Row)
-so_far s n Found = found (set_in s n)
-so_far s n (Refused q) = refused q
-
 abbrev pub progress : List ℤ → Joined → Result (List Row)
-progress s c = so_far s c.rows c.outcome
+progress s (Ok n) = Ok (set_in s n)
+progress s (Err q) = Err q
 
-abbrev pub StandingBy : List ℤ → ℕ → Outcome → Type 0
-StandingBy s n Found = HoldsSet s n
-StandingBy s n (Refused q) = n ≡ 0
+abbrev pub StandingBy : List ℤ → Joined → Type 0
+StandingBy s (Ok n) = HoldsSet s n
+StandingBy s (Err q) = ⊤
 
 -- a further row may be put: the store takes any set, and holds one unless a step was refused
 pub record Ready (s : List ℤ) (c : Joined) : Type 0 where
   pub long : set_numbers ≤ length s
-  pub holds : StandingBy s c.rows c.outcome
+  pub holds : StandingBy s c

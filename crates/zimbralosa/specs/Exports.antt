@@ -1,9 +1,9 @@
 -- What the exported functions promise: the number that they return, and every number of every store and every record of the roll, as
 -- functions of what was lent.
 use Rattle.std.specs.Prelude.{◌≡◌, Bool, cond, List, ◌∷◌, ℕ, leb, length, drop, ℤ}
-use Rattle.sets.specs.Outcomes.{outcome_number}
+use Rattle.sets.specs.Outcomes.{Result, Ok, Err, refusal_number, outcome_number}
 use Rattle.removal.specs.declared.Placed.{Placed}
-use Rattle.removal.specs.Alone.{refused_at_once, answer_of_alone, first_by, second_by}
+use Rattle.removal.specs.Alone.{side, rows_placed, refused_at_once, answer_of_alone, first_by, second_by}
 use Rattle.method.specs.declared.Record.{Record}
 use Rattle.method.specs.Entry.{Run}
 use Rattle.attempts.specs.declared.Answer.{Answer}
@@ -32,15 +32,20 @@ pub record RegionCounted (R : Run) (c : List ℕ) (a b s q : List ℤ) (l : List
 abbrev pub bit : Bool → ℕ
 bit second = cond second 1 0
 
-unfoldable pub placed_after : Placed → List ℕ → List ℕ
-placed_after p c = cond (leb 2 (length c)) (bit p.second ∷ p.rows ∷ drop 2 c) c
+unfoldable pub placed_after : Result Placed → List ℕ → List ℕ
+placed_after p c = cond (leb 2 (length c)) (bit (side p) ∷ rows_placed p ∷ drop 2 c) c
 
-pub record Told (p : Placed) (c c' : List ℕ) (n : ℕ) : Type 0 where
-  pub number : n ≡ outcome_number p.outcome
+-- the number of the outcome
+abbrev pub placed_number : Result Placed → ℕ
+placed_number (Ok s) = 0
+placed_number (Err r) = refusal_number r
+
+pub record Told (p : Result Placed) (c c' : List ℕ) (n : ℕ) : Type 0 where
+  pub number : n ≡ placed_number p
   pub answer : c' ≡ placed_after p c
 
 pub record RemovalTold (count : ℕ) (vs : List ℕ) (a b : List ℤ) (c : List ℕ) (a' b' : List ℤ) (c' : List ℕ) (n : ℕ) : Type 0 where
-  pub number : n ≡ outcome_number (answer_of_alone count vs a b).outcome
+  pub number : n ≡ placed_number (answer_of_alone count vs a b)
   pub answer : c' ≡ placed_after (answer_of_alone count vs a b) c
   pub first : a' ≡ first_by (refused_at_once count vs a b) count vs a
   pub second : b' ≡ second_by (refused_at_once count vs a b) count vs a b

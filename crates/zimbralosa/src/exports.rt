@@ -2,25 +2,27 @@
 ghost use Rattle.std.specs.Prelude.{◌≡◌};
 ghost use Rattle.method.specs.Entry.{run_hex};
 ghost use Rattle.zimbralosa.specs.Entries.{lent};
-ghost use Rattle.zimbralosa.specs.Exports.{Counted, RegionCounted, bit, Told, RemovalTold};
+ghost use Rattle.zimbralosa.specs.Exports.{Counted, RegionCounted, Told, RemovalTold};
 
 use attempts::Answer;
 use method::Record;
 use removal::Placed;
+use sets::Refusal;
 
 // An answer's four counts to the front of a store that takes them, and the number of its outcome.
+#[tactic(auto, unfolding(crate::specs::Exports::counts_after))]
 fn put_counts(a: Answer, counts: &mut [u64]) -> u8
     ensures { Counted a counts.old counts.new result }
 {
-    let o = a.outcome;
-    if 4 <= counts.len() {
-        counts[0] = a.states as u64;
-        counts[1] = a.attempts as u64;
-        counts[2] = a.formed as u64;
-        counts[3] = a.rows as u64;
-        return o.number();
+    if let Some(front) = counts.first_chunk_mut() {
+        *front = [
+            a.states as u64,
+            a.attempts as u64,
+            a.formed as u64,
+            a.rows as u64,
+        ];
     }
-    o.number()
+    sets::outcome_number(a.outcome)
 }
 
 // The region of a model given as hex bytes.
@@ -40,27 +42,20 @@ pub fn zimbralosa_region(
     put_counts(a, counts)
 }
 
-// 1 for the second store, 0 for the first.
-fn bit_of(second: bool) -> u64
-    ensures { result ≡ bit second }
+// In which store the rows stand (1 for the second) and how many they are, to the front of a store that takes the two numbers; and the number
+// of the outcome.
+#[tactic(auto, unfolding(crate::specs::Exports::placed_after))]
+fn put_placed(placed: Result<Placed, Refusal>, answer: &mut [u64]) -> u8
+    ensures { Told placed answer.old answer.new result }
 {
-    if second {
-        return 1;
+    let (numbers, number) = match placed {
+        Ok(p) => ([u64::from(p.second), p.rows as u64], 0),
+        Err(refusal) => ([0, 0], u8::from(refusal)),
+    };
+    if let Some(front) = answer.first_chunk_mut() {
+        *front = numbers;
     }
-    0
-}
-
-// In which store the rows stand and how many they are, to the front of a store that takes the two numbers; and the number of the outcome.
-fn put_placed(p: Placed, answer: &mut [u64]) -> u8
-    ensures { Told p answer.old answer.new result }
-{
-    let o = p.outcome;
-    if 2 <= answer.len() {
-        answer[0] = bit_of(p.second);
-        answer[1] = p.rows as u64;
-        return o.number();
-    }
-    o.number()
+    number
 }
 
 // The rows at the front of the first store without the variables.
@@ -73,6 +68,8 @@ pub fn zimbralosa_remove(
 ) -> u8
     ensures { RemovalTold count variables.now first.old second.old answer.old first.new second.new answer.new result }
 {
-    let p = removal::remove_between(first, second, count, variables);
-    put_placed(p, answer)
+    put_placed(
+        removal::remove_between(first, second, count, variables),
+        answer,
+    )
 }
