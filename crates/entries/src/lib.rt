@@ -1,4 +1,5 @@
-// The sixteen entries of a row, in 32 or 64 bits. Each function is an inner step of the rows above.
+// The sixteen entries of a row, in 32 or 64 bits. Each function is an inner step of the rows above. That entries are small is asked of plain
+// arrays: a type of small entries would be built anew wherever a row is read from a lent store.
 // Arrays are made by `from_fn`, which the compiler takes several entries at a time; `map` hands them on one by one (4 to 20 times the instructions).
 #![tactic(auto)]
 
@@ -78,6 +79,7 @@ pub fn added(x: [i32; COUNT], y: [i32; COUNT]) -> [i32; COUNT]
     array::from_fn(|i| x[i] + y[i])
 }
 
+// `contains`, as the definitions name it: asked twice below.
 fn has(l: [i32; COUNT], x: i32) -> bool
     ensures { result ≡ has x l }
 {
@@ -118,7 +120,7 @@ pub fn signs(l: [i32; COUNT]) -> [i32; COUNT]
     array::from_fn(|i| l[i].signum())
 }
 
-// The first entry of a variable that is not 0; 0 where there is none.
+// The first entry of a variable that is not 0; 0 where there is none, as `first_nonzero` has it, since no entry that is found is 0.
 pub fn first_variable(l: [i32; COUNT]) -> i32
     ensures { result ≡ first_nonzero (drop 1 l) }
 {

@@ -1,4 +1,5 @@
-// Bytes written as digits into a lent store, one after the other.
+// Bytes written as digits into a lent store, one after the other. That there is room is asked at each step: `write_answer` has counted it before,
+// and nothing may be written where the whole has no room.
 ghost use Rattle.std.specs.Prelude.{◌≡◌, [], ◌∷◌, ◌+◌, ◌*◌, ◌≤◌, ◌<◌, length};
 ghost use Rattle.frames.specs.Hex.{digit_of, digits_of, line_of};
 ghost use Rattle.frames.specs.Writing.{Room, Put, term_bytes, terms_of, term_number, row_head, row_bytes};
@@ -12,7 +13,7 @@ pub struct Out<'a> {
     at: usize,
 }
 
-// Inner step.
+// Inner step. Two cases: `write!` would take a writer, and give an error that cannot come.
 fn digit_of(n: u8) -> u8
     requires { n < 16 }
     ensures { result ≡ digit_of n }

@@ -1,4 +1,6 @@
-// Frames: what their bytes, the kind taken off, say.
+// Frames: what their bytes, the kind taken off, say. A frame is a slice of the buffer; that its length is due is tested once, by
+// `Progress::placed`, and asked for from then on. Two kinds have four bytes, and each names fields of its own: a
+// conversion from four bytes would not say whose they are.
 ghost use Rattle.std.specs.Prelude.{◌≡◌, not, ℕ, ◌+◌, ◌*◌, ◌≤◌, ◌<◌, length, get_or, drop};
 ghost use Rattle.std.specs.Simd.{first_chunks};
 ghost use Rattle.integers.specs.Lists.{every, from};
@@ -59,7 +61,7 @@ pub fn reference_of(b: &[u8], h: Header) -> Reference
     }
 }
 
-// The number of terms that a row frame counts; 0 where it is too short to say.
+// The number of terms that a row frame counts; 0 where it is too short to say, as `term_count` has it: such a frame is of no right length.
 pub fn term_count(b: &[u8]) -> u8
     ensures { result ≡ term_count b.now }
 {

@@ -20,7 +20,7 @@ mod lines;
 mod regions;
 mod steps;
 
-// What has been read, counted; the transitions and the rows themselves stand in their tables.
+// What has been read, counted; the transitions and the rows themselves stand in their tables, of a fixed size, since there is no heap.
 #[derive(Clone, Copy, Default)]
 pub struct Progress {
     pub header: Option<Header>,
@@ -87,7 +87,8 @@ fn finished(
 }
 
 // Inner step: the whole answer, from the counts and the region's rows at the front of a store; how many characters it has. Where there is
-// no room nothing is written.
+// no room nothing is written. The counts come one by one: the answer that has them belongs to a crate above. A region is a store and the number
+// of its rows.
 pub fn write_answer(
     outcome: Result<(), Refusal>,
     states: usize,

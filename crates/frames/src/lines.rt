@@ -5,7 +5,8 @@ ghost use Rattle.frames.specs.Steps.{frame_limit, Decoded};
 
 use crate::digits;
 
-// A byte of the line, as far as there is room: no frame of right length is longer.
+// A byte of the line, as far as there is room: no frame of right length is longer. By index: of what `get_mut` lends a proof knows no number
+// afterwards.
 fn keep(to: &mut [u8], n: usize, b: u8)
     ensures { to.new ≡ set to.old n b }
 {

@@ -110,7 +110,7 @@ fn due_length(h: Header, kind: Kind, terms: u8) -> usize
     }
 }
 
-// Inner step: 3.
+// Inner step: 3. Of three kinds each is a test and a refusal: a helper would take the test, the refusal and the case, and be no shorter.
 #[tactic(auto, unfolding(crate::specs::Reading::header_frame))]
 fn header_frame(b: &[u8]) -> Result<Frame, Refusal>
     requires { length b.now ≡ 4 }

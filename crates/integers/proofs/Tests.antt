@@ -2,11 +2,11 @@
 use mathlib.Core.Path.{◌≡◌, refl, sym, ap, ◌∙◌, subst}
 use mathlib.Core.Bool.{Bool, true, false, not, cond, ◌&&◌, ◌||◌}
 use mathlib.Core.Logic.{◌⊎◌, inl, inr}
-use Prim.Native.Nat.{zero, suc, zero-le}
-use borrow.Author.Tests.{le-ltb}
-use lib.Dec.{T}
+use Prim.Native.Nat.{ℕ, zero, suc, zero-le}
+use borrow.Author.Tests.{ltb-true, ltb-false, le-leb, lt-leb, le-ltb}
+use lib.Dec.{T, leb, ltb}
 use lib.IntN.{ℤ, pos, negsuc, ◌+ℤ◌, ◌-ℤ◌, +ℤ_idl, -ℤ-+ℤ_cancel}
-use lib.Signed.{lt_z}
+use lib.Signed.{le_z, lt_z}
 use Rattle.integers.specs.Signs.{is_zero, isAbove, isBelow}
 
 pub T_of : {b : Bool} → b ≡ true → T b
@@ -79,6 +79,21 @@ one_of_three (pos zero) f g h = f tt
 one_of_three (pos (suc n)) f g h = g tt
 one_of_three (negsuc n) f g h = h tt
 
+-- the two tests of order are each other's opposites
+le_not_lt : (m n : ℕ) → leb n m ≡ not (ltb m n)
+le_not_lt m n = go (ltb m n) refl
+  where
+    go : (b : Bool) → ltb m n ≡ b → leb n m ≡ not b
+    go true e = lt-leb n m (ltb-true m n e)
+    go false e = le-leb n m (ltb-false m n e)
+
+pub le_z_not_lt_z : (x y : ℤ) → le_z y x ≡ not (lt_z x y)
+le_z_not_lt_z (pos m) (pos n) = le_not_lt m n
+le_z_not_lt_z (pos m) (negsuc n) = refl
+le_z_not_lt_z (negsuc m) (pos n) = refl
+le_z_not_lt_z (negsuc m) (negsuc n) = le_not_lt n m
+
+-- the sign by the test of order
 pub below_lt : (z : ℤ) → isBelow z ≡ lt_z z (pos 0)
 below_lt (pos n) = sym (le-ltb n 0 zero-le)
 below_lt (negsuc n) = refl

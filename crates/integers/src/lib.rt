@@ -31,7 +31,8 @@ pub fn quotient(x: i64, d: u64) -> i64
     x / (d as i64)
 }
 
-// Inner step: b times x plus a times y, at most 2 · 10^18 for entries within the limit.
+// Inner step: b times x plus a times y, at most 2 · 10^18 for entries within the limit. A function of its own: its bound is shown once, and
+// sixteen entries use it.
 pub fn combined(x: i64, y: i64, a: i64, b: i64) -> i64
     requires { (nat_abs x ≤ entry_limit) × (nat_abs y ≤ entry_limit) × (nat_abs a ≤ entry_limit) × (nat_abs b ≤ entry_limit) }
     ensures { result ≡ b *ℤ x +ℤ a *ℤ y }
@@ -39,7 +40,7 @@ pub fn combined(x: i64, y: i64, a: i64, b: i64) -> i64
     b * x + a * y
 }
 
-// Inner step: a sum with one product more.
+// Inner step: a sum with one product more. Apart, so that its bound is shown once.
 pub fn plus_product(s: i64, a: i64, b: i64) -> i64
     requires { (nat_abs s ≤ 2 ^ 61) × (nat_abs a * nat_abs b ≤ 2 ^ 61) }
     ensures { result ≡ s +ℤ a *ℤ b }

@@ -73,7 +73,8 @@ pub struct ModelRow {
     pub entries: [i32; 16],
 }
 
-// The rows beyond `count` are not looked at; a count above 128 is refused.
+// The rows beyond `count` are not looked at; a count above 128 is refused. Tables of a fixed size with their counts beside, here and in the
+// header: there is no heap, and a tester hands them in as they are. So are the kind and the owner of a row, two numbers.
 #[derive(Clone, Copy)]
 pub struct Model {
     pub header: Header,
@@ -137,7 +138,8 @@ fn resets_declared(resets: u8, clocks: u8) -> bool
 }
 
 impl Reference {
-    // Inner step: 4, of the denominator and the declared numerators.
+    // Inner step: 4, of the denominator and the declared numerators. The number of parameters is the header's, which fits (3), and so is no more
+    // than 8: asked for, since it is an index here.
     pub fn fits(self, parameters: u8) -> bool
         requires { parameters ≤ 8 }
         ensures { result ≡ reference_fits (reference_list self parameters) }
@@ -170,7 +172,7 @@ impl Reference {
 }
 
 impl ModelRow {
-    // The row as its owner has it.
+    // The row as its owner has it. Its flag is a number that 5 tests, so this is a reading and no conversion.
     pub fn row(self) -> Row
         ensures { result ≡ row_of self }
     {

@@ -20,7 +20,8 @@ fn main(rt: HostRuntime) -> io::Result<()> {
     Ok(())
 }
 
-// One case read and run; false where the input ends. A length that is missing counts as 0, unlike in `runs`: two functions.
+// One case read and run; false where the input ends. A length that is missing counts as 0, unlike in `runs`: two functions. Reader, writer and
+// number are main's own three, lent one by one, as a struct would be generic over both streams.
 fn run_next<R: Read, W: Write>(
     reader: &mut R,
     writer: &mut W,
@@ -84,12 +85,8 @@ fn with_signed(sum: u32, numbers: &[i32]) -> u32 {
 
 fn with_reference(sum: u32, m: &Model) -> u32 {
     let declared = usize::from(m.header.parameters);
-    let sum = with_signed(sum, &[m.reference.denominator]);
-    m.reference
-        .numerators
-        .iter()
-        .take(declared)
-        .fold(sum, |sum, n| with(sum, n.cast_unsigned()))
+    let numerators = m.reference.numerators.get(..declared).unwrap_or(&[]);
+    with_signed(with_signed(sum, &[m.reference.denominator]), numerators)
 }
 
 fn with_transition(sum: u32, t: Transition) -> u32 {

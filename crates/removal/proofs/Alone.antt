@@ -7,6 +7,7 @@ use native.Mathlib.Omega.{arith}
 use lib.ListN.{length, take}
 use lib.IntN.{ℤ}
 use denote.Ref.{Bor}
+use Rattle.std.specs.Result.{result_and}
 use Rattle.rows.specs.declared.Row.{Row}
 use Rattle.rows.specs.Rows.{row_numbers, set_numbers}
 use Rattle.sets.specs.declared.Refusal.{Refusal}
@@ -14,13 +15,13 @@ use Rattle.sets.specs.Outcomes.{Outcome, Ok, Err, Result, and_then}
 use Rattle.sets.specs.Stores.{Joined, numbers_of, rows_at, zeroed, with_rows, Left}
 use Rattle.sets.specs.Sets.{joined}
 use Rattle.sets.proofs.Stores.{length-numbers_of, wide-rows_at, length-with_rows, take-with_rows, length-zeroed, touched_none}
-use Rattle.sets.proofs.Results.{refused-not, found-same}
+use Rattle.sets.proofs.Results.{refused-not}
 use Rattle.removal.specs.declared.Placed.{Placed}
 use Rattle.removal.specs.Removal.{all_removed}
-use Rattle.removal.specs.Alone.{pick, side_after, placed, placed_as, side, rows_placed, standing, Between, Moved, refused_at_once, alone, store_after, Tidied, answer_by, first_by, second_by, numbers_of_result, RemovedAlone, part_end}
+use Rattle.removal.specs.Alone.{pick, side_after, placed, placed_as, side, rows_placed, standing, Between, Moved, refused_at_once, alone, store_after, Tidied, answer_by, first_by, second_by, answer_of_alone, outcome_of, numbers_found, RemovedAlone, part_end, RemovedPart}
 use Rattle.removal.proofs.AtOnce.{Accepted, accepted}
 use Rattle.removal.proofs.Between.{MayStand, joined_may_stand, all_may_stand, left-first, moved-between, moved-again, moved-room, moved-tidied}
-use Rattle.removal.proofs.Ends.{end_fits}
+use Rattle.removal.proofs.Ends.{end_fits, none_taken}
 
 module _ (count : ℕ) (vs : List ℕ) (a b : List ℤ) where
   -- refused at once: nothing changes
@@ -97,23 +98,39 @@ all_taken t s g l =
     let e : length (with_rows t s) ≡ length s = length-with_rows t s (rw (length-numbers_of g.0.2) k) in
     rw (e, ← end_fits (length s) (length t) g.0.3 k) (take-with_rows t s g.0.2)
 
--- the part of a set that was found
-module _ (count : ℕ) (vs : List ℕ) (a b p : Bor (List ℤ)) (a' b' : List ℤ) (s : Placed) where
-  part-found : (second : Bool) (x : Result (List Row)) → alone count vs a.now ≡ x → MayStand x → set_numbers ≤ length a.now → set_numbers ≤ length b.now →
-      Ok s ≡ placed second x → a' ≡ store_after (not second) x a.now → b' ≡ store_after second x b.now →
-      take (part_end (length (pick s.second a' b')) s.rows) (pick s.second a' b') ≡ numbers_of_result (alone count vs a.now)
-  part-found second (Ok t) e g l m q f k =
-      let same : s ≡ record { rows = length t; second = second } = found-same q in
-      rw (same, f, k, found_here second t a.now b.now, e) (all_taken t (zeroed (pick second a.now b.now)) g (longer second a.now b.now l m))
-  part-found second (Err r) e g l m q f k = refused-not (sym q)
+-- the part that an answer speaks of
+module _ (count : ℕ) (vs : List ℕ) (a b a' b' : List ℤ) (r : Result Placed) where
+  abbrev Part : Result Placed → Type 0
+  Part x = take (part_end (length (pick (side r) a' b')) (rows_placed r)) (pick (side r) a' b') ≡ numbers_found x count vs a
 
-  pub removed-part : RemovedAlone count vs a.now b.now a' b' (Ok s) → p.now ≡ take (part_end (length (pick s.second a' b')) s.rows) (pick s.second a' b') →
-      p.ref_ptr ≡ pick s.second a.ref_ptr b.ref_ptr → (p.now ≡ numbers_of_result (alone count vs a.now)) × (p.ref_ptr ≡ pick s.second a.ref_ptr b.ref_ptr)
-  removed-part h f g = (f ∙ go (refused_at_once count vs a.now b.now) refl h.answer h.first h.second, g)
+  part-found : (second : Bool) (x : Result (List Row)) → alone count vs a ≡ x → MayStand x → set_numbers ≤ length a → set_numbers ≤ length b →
+      r ≡ placed second x → a' ≡ store_after (not second) x a → b' ≡ store_after second x b → Part (placed second x)
+  part-found second (Ok t) e g l m p q s =
+      rw (p, q, s, found_here second t a b, e) (all_taken t (zeroed (pick second a b)) g (longer second a b l m))
+  part-found second (Err k) e g l m p q s = rw p (sym (none_taken (length (pick false a' b')) (pick false a' b')))
+
+  part-numbers : RemovedAlone count vs a b a' b' r → Part (answer_of_alone count vs a b)
+  part-numbers h = go (refused_at_once count vs a b) refl h.answer h.first h.second
     where
-      go : (o : Outcome) → refused_at_once count vs a.now b.now ≡ o → Ok s ≡ answer_by o count vs a.now → a' ≡ first_by o count vs a.now → b' ≡ second_by o count vs a.now b.now →
-          take (part_end (length (pick s.second a' b')) s.rows) (pick s.second a' b') ≡ numbers_of_result (alone count vs a.now)
-      go (Ok _) e q f k =
-          let ok = accepted count vs a.now b.now e in
-          part-found (side_after false vs) (alone count vs a.now) refl (alone-stands count vs a.now b.now e) ok.first_long ok.second_long q f k
-      go (Err r) e q f k = refused-not (sym q)
+      go : (o : Outcome) → refused_at_once count vs a b ≡ o → r ≡ answer_by o count vs a → a' ≡ first_by o count vs a → b' ≡ second_by o count vs a b → Part (answer_by o count vs a)
+      go (Ok _) e p q s =
+          let ok = accepted count vs a b e in
+          part-found (side_after false vs) (alone count vs a) refl (alone-stands count vs a b e) ok.first_long ok.second_long p q s
+      go (Err k) e p q s = rw p (sym (none_taken (length (pick false a' b')) (pick false a' b')))
+
+-- the outcome, the part, and where it lies
+pub removed-part : (count : ℕ) (vs : List ℕ) (a b p : Bor (List ℤ)) (a' b' : List ℤ) (r : Result Placed) (o : Outcome) → RemovedAlone count vs a.now b.now a' b' r →
+    o ≡ outcome_of r →
+    p.now ≡ take (part_end (length (pick (side r) a' b')) (rows_placed r)) (pick (side r) a' b') →
+    p.ref_ptr ≡ pick (side r) a.ref_ptr b.ref_ptr → RemovedPart count vs a b o p
+removed-part count vs a b p a' b' r o h e f g =
+    record {
+      answer = e ∙ ap outcome_of h.answer;
+      numbers = f ∙ part-numbers count vs a.now b.now a' b' r h;
+      place = g ∙ ap (λ (q : Result Placed). pick (side q) a.ref_ptr b.ref_ptr) h.answer;
+    }
+
+-- the outcome as the code has it
+pub outcome-and : (r : Result Placed) (o : Outcome) → o ≡ result_and r (Ok tt) → o ≡ outcome_of r
+outcome-and (Ok s) o e = e
+outcome-and (Err q) o e = e

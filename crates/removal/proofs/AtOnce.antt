@@ -1,60 +1,31 @@
 -- The refusals that change nothing: flags and variable numbers tested one after the other, and the refusals in their order. Assumes nothing.
-use mathlib.Core.Path.{◌≡◌, sym}
+use mathlib.Core.Path.{◌≡◌, refl, sym, ap}
 use mathlib.Core.Bool.{Bool, true, false, ◌&&◌}
 use mathlib.Core.List.{List}
-use Prim.Native.Nat.{ℕ, suc, ◌+◌, ◌-◌, ◌*◌, ◌^◌, ◌≤◌, ◌<◌}
-use native.Mathlib.Nat.{sub-zero}
+use Prim.Native.Nat.{ℕ, zero, suc, ◌+◌, ◌*◌, ◌≤◌, ◌<◌}
 use native.Mathlib.Numerals.{add-one}
 use native.Mathlib.Omega.{arith}
-use borrow.Author.Tests.{leb-true, ltb-true, ltb-false, le-leb, lt-leb, lt-ltb, le-ltb, ne_eqb, eq-eqb}
+use borrow.Author.Tests.{leb-true, ltb-true, ltb-false, le-leb, lt-leb, lt-ltb, le-ltb}
 use lib.Dec.{leb, ltb}
 use lib.ListN.{length, get_or}
 use lib.IntN.{ℤ, pos}
-use lib.Signed.{mag}
-use mir.Syntax.{w32}
-use mir.Val.{of_z}
+use Rattle.std.specs.List.{list_all, range_with_len}
 use Rattle.integers.specs.Lists.{every, from}
-use Rattle.integers.proofs.Bounds.{bits-zero, zero_bits}
 use Rattle.integers.proofs.Tests.{and_left, and_right, and_none, or-false, split}
 use Rattle.rows.specs.Rows.{entry_count, row_numbers, set_rows, set_numbers}
-use Rattle.rows.proofs.Stores.{flag-read}
 use Rattle.sets.specs.Outcomes.{Outcome, Ok, Err}
 use Rattle.sets.proofs.Results.{refused-not}
 use Rattle.sets.specs.declared.Refusal.{Refusal}
 use Rattle.sets.specs.declared.Refusal.TheVariants.{Undeclared, TooManyRows, ShortStore}
 use Rattle.removal.specs.Alone.{short, is_flag, flags_fit, is_variable, refused_at_once}
 
--- ---- a flag, as the machine reads it
-module _ (z : ℤ) (h : mag z < 2 ^ 31) where
-  pub flag-zero : of_z w32 z ≡ 0 → is_flag z ≡ true
-  flag-zero e = rw (bits-zero w32 z h e)
-
-  pub flag_one : (of_z w32 z ≡ 0 → ⊥) → of_z w32 z ≡ 1 → is_flag z ≡ true
-  flag_one f e = rw (zero_bits w32 z f, ← flag-read z h, eq-eqb (of_z w32 z) 1 e)
-
-  pub flag_neither : (of_z w32 z ≡ 0 → ⊥) → (of_z w32 z ≡ 1 → ⊥) → is_flag z ≡ false
-  flag_neither f g = rw (zero_bits w32 z f, ← flag-read z h, ne_eqb (of_z w32 z) 1 g)
-
--- ---- the flags of n rows, the next one being that of row i
+-- ---- the flags of n rows, from row i on
 abbrev pub flag_at : List ℤ → ℕ → Bool
 flag_at s i = is_flag (get_or s (i * row_numbers + entry_count) (pos 0))
 
-pub flags-start : (s : List ℤ) (n : ℕ) → every (flag_at s) (from 0 (n - 0)) ≡ flags_fit s n
-unfolding flags_fit
-flags-start s n = rw (sub-zero n)
-
-module _ (s : List ℤ) (n i : ℕ) where
-  flags-left : i < n → every (flag_at s) (from i (n - i)) ≡ (flag_at s i && every (flag_at s) (from (i + 1) (n - (i + 1))))
-  flags-left h = let e : n - i ≡ suc (n - (i + 1)) = omega arith in rw (e, add-one i)
-
-  pub flags_turn : i < n → flag_at s i ≡ true → every (flag_at s) (from (i + 1) (n - (i + 1))) ≡ every (flag_at s) (from i (n - i))
-  flags_turn h e = rw (flags-left h, e)
-
-  pub flags-stop : i < n → flag_at s i ≡ false → false ≡ every (flag_at s) (from i (n - i))
-  flags-stop h e = rw (flags-left h, e)
-
-  pub flags-done : n ≤ i → true ≡ every (flag_at s) (from i (n - i))
-  flags-done h = let e : n - i ≡ 0 = omega arith in rw e
+pub flags-each : (s : List ℤ) (n i : ℕ) → list_all (flag_at s) (range_with_len i n) ≡ every (flag_at s) (from i n)
+flags-each s zero i = refl
+flags-each s (suc n) i = rw (add-one i) (ap (λ (b : Bool). flag_at s i && b) (flags-each s n (suc i)))
 
 -- ---- a variable number
 pub variable_below : (v : ℕ) → v < 1 → is_variable v ≡ false

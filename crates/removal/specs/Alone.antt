@@ -151,11 +151,16 @@ pub record PartIs (a b : Bor (List ℤ)) (r : Result Placed) (p : Bor (List ℤ)
   pub numbers : p.now ≡ take (part_end (length (pick (side r) a.now b.now)) (rows_placed r)) (pick (side r) a.now b.now)
   pub place : p.ref_ptr ≡ pick (side r) a.ref_ptr b.ref_ptr
 
--- the removal that hands back the part: the part's numbers and where it lies, or the refusal
-abbrev pub PartGiven : ℕ → List ℕ → Bor (List ℤ) → Bor (List ℤ) → Result Placed → Result (MutBor (List ℤ)) → Type 0
-PartGiven count vs a b (Ok s) (Ok p) = (p.now ≡ numbers_of_result (alone count vs a.now)) × (p.ref_ptr ≡ pick s.second a.ref_ptr b.ref_ptr)
-PartGiven count vs a b (Err q) (Err r) = r ≡ q
-PartGiven count vs a b s r = ⊥
+-- the removal that hands back the part: its outcome, the part's numbers, and where it lies; a refusal has an empty part
+abbrev pub outcome_of : Result Placed → Outcome
+outcome_of (Ok s) = Ok tt
+outcome_of (Err r) = Err r
 
-abbrev pub RemovedPart : ℕ → List ℕ → Bor (List ℤ) → Bor (List ℤ) → Result (MutBor (List ℤ)) → Type 0
-RemovedPart count vs a b r = PartGiven count vs a b (answer_of_alone count vs a.now b.now) r
+abbrev pub numbers_found : Result Placed → ℕ → List ℕ → List ℤ → List ℤ
+numbers_found (Ok s) count vs a = numbers_of_result (alone count vs a)
+numbers_found (Err r) count vs a = []
+
+pub record RemovedPart (count : ℕ) (vs : List ℕ) (a b : Bor (List ℤ)) (outcome : Outcome) (p : Bor (List ℤ)) : Type 0 where
+  pub answer : outcome ≡ outcome_of (answer_of_alone count vs a.now b.now)
+  pub numbers : p.now ≡ numbers_found (answer_of_alone count vs a.now b.now) count vs a.now
+  pub place : p.ref_ptr ≡ pick (side (answer_of_alone count vs a.now b.now)) a.ref_ptr b.ref_ptr

@@ -36,6 +36,7 @@ pub fn remove_next(
     ensures { Moved (not (side s)) (and_then (standing first.old second.old s) (removed v)) first.old second.old first.new second.new result }
 {
     let s = s?;
+    // Of a pair of `&mut` that an `if` chooses there is no proof, so the step stands twice.
     if s.second {
         let rows = pairs::without(second, s.rows, v, first)?;
         return Ok(Placed {
@@ -65,7 +66,7 @@ pub fn remove_all(
 }
 
 // The given rows divided down and made a set, in their own store: the set grows no faster than the rows are read. `sets::join` reads another
-// store than it writes, and cannot be borrowed so.
+// store than it writes, and cannot be borrowed so. The number of rows is what a program hands in, tested by `refused_at_once` before.
 fn make_set(s: &mut [i32], n: usize) -> Result<usize, Refusal>
     requires { (n ≤ set_rows) × (set_numbers ≤ length s.old) }
     ensures { Left (joined (rows_at s.old 0 n) []) s.old s.new result }
@@ -81,19 +82,13 @@ fn flags_fit(s: &[i32], n: usize) -> bool
     requires { (n ≤ set_rows) × (set_numbers ≤ length s.now) }
     ensures { result ≡ flags_fit s.now n }
 {
-    for i in 0..n {
-        let f = s[i * Row::NUMBERS + Row::ENTRIES];
-        if f != 0 && f != 1 {
-            return false;
-        }
-    }
-    true
+    (0..n).all(|i| matches!(s[i * Row::NUMBERS + Row::ENTRIES], 0 | 1))
 }
 
 fn variables_fit(variables: &[u8]) -> bool
     ensures { result ≡ every is_variable variables.now }
 {
-    variables.iter().all(|v| 1 <= *v && *v < 16)
+    variables.iter().all(|v| (1..16).contains(v))
 }
 
 // The refusals that change nothing, in their order.
@@ -182,41 +177,40 @@ fn part_end(long: usize, rows: usize) -> usize
 pub fn rows_of<'a>(first: &'a [i32], second: &'a [i32], done: Result<Placed, Refusal>) -> &'a [i32]
     ensures { PartIs first.entry second.entry done result }
 {
-    match done {
-        Ok(s) if s.second => {
-            let end = part_end(second.len(), s.rows);
-            &second[..end]
-        }
-        Ok(s) => {
-            let end = part_end(first.len(), s.rows);
-            &first[..end]
-        }
-        Err(_) => &first[..0],
-    }
+    let Ok(s) = done else {
+        return &first[..0];
+    };
+    let store = if s.second { second } else { first };
+    &store[..part_end(store.len(), s.rows)]
 }
 
 // The same through `&mut`: Rattle has no function over both kinds of reference.
-fn part<'a>(first: &'a mut [i32], second: &'a mut [i32], s: Placed) -> &'a mut [i32]
-    ensures { PartIs (as_shared first.entry) (as_shared second.entry) (Ok s) (as_shared result) }
+fn part<'a>(
+    first: &'a mut [i32],
+    second: &'a mut [i32],
+    done: Result<Placed, Refusal>,
+) -> &'a mut [i32]
+    ensures { PartIs (as_shared first.entry) (as_shared second.entry) done (as_shared result) }
 {
-    if s.second {
-        let end = part_end(second.len(), s.rows);
-        return &mut second[..end];
-    }
-    let end = part_end(first.len(), s.rows);
-    &mut first[..end]
+    let Ok(s) = done else {
+        return &mut first[..0];
+    };
+    let store = if s.second { second } else { first };
+    let end = part_end(store.len(), s.rows);
+    &mut store[..end]
 }
 
-// Removal called alone, with the part of the store that ended with the rows. Both references are spent, so the contract gives the part and
-// its place, or the refusal; what else the stores then hold is what `remove_between`, its only writer, leaves.
+// Removal called alone, with the part of the store that ended with the rows; a refusal has a part too, an empty one. Both references are spent,
+// so the contract gives outcome, part and place; what else the stores then hold is what `remove_between`, its only writer, leaves.
 pub fn remove<'a>(
     first: &'a mut [i32],
     second: &'a mut [i32],
     count: usize,
     variables: &[u8],
-) -> Result<&'a mut [i32], Refusal>
-    ensures { RemovedPart count variables.now (as_shared first.entry) (as_shared second.entry) result }
+) -> (Result<(), Refusal>, &'a mut [i32])
+    ensures { RemovedPart count variables.now (as_shared first.entry) (as_shared second.entry) result.0 (as_shared result.1) }
 {
-    let done = remove_between(first, second, count, variables)?;
-    Ok(part(first, second, done))
+    let done = remove_between(first, second, count, variables);
+    let outcome = done.and(Ok(()));
+    (outcome, part(first, second, done))
 }

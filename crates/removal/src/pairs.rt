@@ -1,5 +1,5 @@
 // One removal, from a set in one store to a set in another: the rows that do not name the variable, then every pair of a row above
-// zero with a row below.
+// zero with a row below. What is asked of a row is asked where it stands in the lent store: a type of such rows would copy each one out.
 ghost use Rattle.std.specs.Prelude.{◌≡◌, map, ℕ, ◌*◌, ◌≤◌, ◌<◌, length, take, ℤ};
 ghost use Rattle.integers.specs.Lists.{All, pairs};
 ghost use Rattle.integers.specs.Signs.{isAbove, isBelow};
@@ -21,7 +21,8 @@ struct Parts {
     uppers: usize,
 }
 
-// The rows without the variable go to the front of the other store; the numbers of the others are listed.
+// The rows without the variable go to the front of the other store; the numbers of the others are listed. It counts rows, since numbers of rows
+// are what is listed.
 fn split(
     from: &[i32],
     n: usize,

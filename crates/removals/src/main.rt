@@ -49,7 +49,8 @@ fn read_head<R: Read>(reader: &mut R) -> io::Result<Option<Head>> {
     }))
 }
 
-// One case read, run and printed; false where the input ends.
+// One case read, run and printed; false where the input ends. Reader, writer and number are main's own three,
+// lent one by one.
 fn run_case<R: Read, W: Write>(
     reader: &mut R,
     writer: &mut W,

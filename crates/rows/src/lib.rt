@@ -1,4 +1,6 @@
-// Rows: 16 signed entries and a strict flag, by value; what is done with them, and how they stand in a lent store.
+// Rows: 16 signed entries and a strict flag, by value; what is done with them, and how they stand in a lent store: 17 numbers a row, read and
+// written by offset. So what is asked of a row, of a place in a store, of a variable's number (an index, which comes as a byte that is lent) and
+// of a setting (an array, made of any model) stands in each clause: a type of its own would be built and taken apart at each use.
 #![tactic(auto)]
 
 ghost use Rattle.std.specs.Prelude.{◌≡◌, ◌+◌, ◌≤◌, ◌<◌, ◌^◌, leb, length};
@@ -21,13 +23,15 @@ pub struct Set {
     pub rows: usize,
 }
 
-// Clocks count from 1 to 6, parameters from 1 to 8. Neither is an entry number: it becomes one where a row is built.
+// Clocks count from 1 to 6, parameters from 1 to 8. Neither is an entry number: it becomes one by `entry`, where a row is built. Two types, so
+// that a clock is never named where a parameter belongs.
 #[derive(Clone, Copy)]
 pub struct Clock(pub u8);
 
 #[derive(Clone, Copy)]
 pub struct Parameter(pub u8);
 
+// What became of a row that was divided down. It goes on alone where the row itself is written to a store.
 #[derive(Clone, Copy)]
 pub enum Fate {
     Kept,
@@ -35,7 +39,8 @@ pub enum Fate {
     TooLarge,
 }
 
-// A row divided down, and whether it stays. The row is a field and no payload of `Kept`: behind an enum it would lie at an odd place.
+// A row divided down, and whether it stays. The row is a field and no payload of `Kept`: what `divided_into` writes is fixed for every fate
+// (its clause `to_after`), the empty row where none stays.
 #[derive(Clone, Copy)]
 pub struct Settled {
     pub row: Row,
@@ -47,6 +52,7 @@ impl Set {
 
     pub const NUMBERS: usize = Set::ROWS * Row::NUMBERS;
 
+    // The empty set and the empty row have constructors of their own name, since the rules speak of them; a default would be no name.
     pub fn empty() -> Set
         ensures { result.rows ≡ 0 }
     {
@@ -69,6 +75,7 @@ impl Set {
 }
 
 impl Clock {
+    // A clock's number and its entry are two numbers: `usize::from` would not say which.
     pub fn entry(self) -> usize
         ensures { result ≡ clock_entry self }
     {
@@ -298,7 +305,8 @@ fn order_of_four(s: &[i32], a: usize, t: &[i32], b: usize) -> Ordering
         .unwrap_or(Ordering::Equal)
 }
 
-// Whether the four numbers are the same. There is no way out of the fold, so that the compiler takes them together.
+// Whether the four numbers are the same. There is no way out of the fold, so that the compiler takes them together. Four is part of its clause,
+// the order of four; `sets::same_numbers` is of seventeen.
 fn same_four(s: &[i32], a: usize, t: &[i32], b: usize) -> bool
     requires { (a + 4 ≤ length s.now) × (b + 4 ≤ length t.now) }
     ensures { result ≡ is_same (four_order s.now a t.now b) }

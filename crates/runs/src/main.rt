@@ -51,7 +51,8 @@ fn main(rt: HostRuntime) -> io::Result<()> {
     Ok(())
 }
 
-// One case read and run; false where the input ends.
+// One case read and run; false where the input ends. Reader, writer and number are main's own three,
+// lent one by one.
 fn run_next<R: Read, W: Write>(
     reader: &mut R,
     writer: &mut W,

@@ -1,12 +1,9 @@
 -- `removal::remove` meets its contract.
-use Rattle.removal.specs.Alone.{RemovedAlone, as_shared}
-use Rattle.std.proofs.Common.{Ok}
-use Rattle.removal.proofs.Alone.{removed-part}
+use Rattle.removal.specs.Alone.{as_shared}
+use Rattle.removal.proofs.Alone.{removed-part, outcome-and}
 use Rattle.removal.proofs.remove.Goals as goal
 
 pub returns : goal.returns
 returns c =
     let z = c.args in
-    let h : RemovedAlone z.count z.variables.now z.first.now z.second.now c.remove_between.new.first c.remove_between.new.second (Ok c.in_ok-done.done) = rw c.in_ok-done.was at c.remove_between.ensures in
-    rw (← h.answer)
-    (removed-part z.count z.variables.now (as_shared z.first) (as_shared z.second) (as_shared c.part.result) _ _ c.in_ok-done.done h c.part.ensures.numbers c.part.ensures.place)
+    removed-part z.count z.variables.now (as_shared z.first) (as_shared z.second) _ _ _ _ _ c.remove_between-done.ensures (outcome-and _ _ c.and-outcome.ensures) c.part.ensures.numbers c.part.ensures.place
