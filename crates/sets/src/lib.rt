@@ -245,12 +245,15 @@ pub fn equal(x: &[i32], a: usize, y: &[i32], b: usize, n: usize) -> bool
     true
 }
 
-// Inner step: so many numbers from an offset of one store to an offset of another.
+// Inner step: so many numbers from an offset of one store to an offset of another, number by number: with `copy_from_slice` the archive would
+// need `memmove` from a C program too.
 pub fn copy(from: &[i32], a: usize, to: &mut [i32], b: usize, count: usize)
     requires { (a + count ≤ length from.now) × (b + count ≤ length to.old) }
     ensures { to.new ≡ take b to.old ++ take count (drop a from.now) ++ drop (b + count) to.old }
 {
-    to[b..b + count].copy_from_slice(&from[a..a + count]);
+    for i in 0..count {
+        to[b + i] = from[a + i];
+    }
 }
 
 // Inner step: every whole row from a row on becomes zeros; numbers beyond the last whole row are not touched.
