@@ -3,7 +3,7 @@ use mathlib.Core.Path.{◌≡◌, refl, sym, ap, ◌∙◌}
 use mathlib.Core.Bool.{Bool, true, false, cond, ◌||◌, or-true}
 use mathlib.Core.Logic.{◌⊎◌, inl, inr, ⊎_elim}
 use Prim.Native.Nat.{ℕ, zero, suc, ◌+◌, ◌*◌, ◌-◌, ◌/◌, ◌^◌, ◌≤◌, ◌<◌}
-use native.Mathlib.Nat.{le_refl, le-suc, lt_of_le_of_lt, suc_inj, suc-ne-zero, mul-le-mul}
+use native.Mathlib.Nat.{le_refl, le-suc, lt_of_le_of_lt, suc_inj, suc-ne-zero, div-le_self, mul-le-mul}
 use native.Mathlib.Omega.{arith}
 use borrow.Author.Tests.{ltb-true, eqb-true, eq-eqb}
 use lib.Dec.{eqb, ltb, lit<}
@@ -56,6 +56,9 @@ nat_abs_mul (negsuc a) (negsuc b) = refl
 pub natAbs_quot : (x : ℤ) (g : ℕ) → nat_abs (quot_z x (pos g)) ≡ nat_abs x / g
 natAbs_quot (pos a) g = refl
 natAbs_quot (negsuc a) g = natAbs_neg (pos (suc a / g))
+
+pub quot_fits : {w : Width} (x : ℤ) (g : ℕ) → nat_abs x < 2 ^ hbits w → SFits w (quot_z x (pos g))
+quot_fits x g h = fits_abs (quot_z x (pos g)) (rw natAbs_quot (lt_of_le_of_lt (div-le_self (nat_abs x) g) h))
 
 pub product_le : (B : ℕ) (x y : ℤ) → nat_abs x ≤ B → nat_abs y ≤ B → nat_abs (x *ℤ y) ≤ B * B
 product_le B x y h k = rw nat_abs_mul (mul-le-mul h k)

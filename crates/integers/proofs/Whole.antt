@@ -228,6 +228,9 @@ lt_unscale k x y h = ⊎_elim (λ a. clash_ℤ h (le_scale k y x a)) (λ b. b) (
 pub pos-* : {a b : ℤ} → IsPos a → IsPos b → IsPos (a *ℤ b)
 pos-* (is_pos m) (is_pos n) = pos_of (omega zed)
 
+pub pos_two : IsPos (pos 2)
+pos_two = is_pos 1
+
 pub eq_unscale : {k : ℤ} → IsPos k → (x y : ℤ) → k *ℤ x ≡ k *ℤ y → x ≡ y
 eq_unscale k x y e =
     let a : x ≤ℤ y = le_unscale k x y (rw e (≤ℤ_refl _)) in
