@@ -64,6 +64,14 @@ impl TryFrom<u8> for Kind {
     }
 }
 
+impl From<Kind> for u8 {
+    fn from(kind: Kind) -> u8
+        ensures { result ≡ kind_number kind }
+    {
+        kind as u8
+    }
+}
+
 // The kind, the owner and the flag are numbers, as they are handed in: what they say is tested, and refused by 5.
 #[derive(Clone, Copy, Default)]
 pub struct ModelRow {
@@ -183,10 +191,10 @@ impl ModelRow {
         }
     }
 
-    pub fn is_of(self, kind: Kind, owner: u8) -> bool
-        ensures { result ≡ is_of (kind_number kind) owner self }
+    pub fn is_of(self, kind: u8, owner: u8) -> bool
+        ensures { result ≡ is_of kind owner self }
     {
-        self.kind == kind as u8 && self.owner == owner
+        self.kind == kind && self.owner == owner
     }
 
     // 5 of a row.
@@ -218,7 +226,7 @@ impl ModelRow {
         requires { Small self.entries × Within given_limit setting }
         ensures { result ≡ not (is_of (kind_number kind) 0 self) || holds_at setting (row_of self) }
     {
-        !self.is_of(kind, 0) || self.row().holds(setting)
+        !self.is_of(u8::from(kind), 0) || self.row().holds(setting)
     }
 }
 
