@@ -12,3 +12,6 @@ pub mod Back
 pub mod Only
 pub mod Rewriting
 pub mod Determined
+pub mod Within
+pub mod Appending
+pub mod Patterns

@@ -206,3 +206,9 @@ only_no_frame (c ∷ l) q e = go (first_bytes (c ∷ l)) e (told c l)
     go : (o : Result (List ℕ)) → o ≡ Err q → ToldBy (c ∷ l) o → q ≡ NoFrame
     go o e (broken h) = cc
     go o e (front h) = refused-not (sym e)
+
+-- a line whose first character is no digit is none
+first-foreign : (c : ℕ) (cs : List ℕ) → digit c ≡ Err NoFrame → bytes_of (c ∷ cs) ≡ Err NoFrame
+unfolding bytes_of pair and_then
+first-foreign c [] e = refl
+first-foreign c (d ∷ cs) e = rw e
