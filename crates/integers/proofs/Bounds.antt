@@ -1,14 +1,14 @@
 -- Laws of ℤ by magnitude: what fits, the sign turned, a sum, a product and a quotient. Over any width. Assumes nothing.
-use mathlib.Core.Path.{◌≡◌, refl, sym, ap, ◌∙◌}
+use mathlib.Core.Path.{◌≡◌, refl, sym, ap, ◌∙◌, subst}
 use mathlib.Core.Bool.{Bool, true, false, cond, ◌||◌, or-true}
 use mathlib.Core.Logic.{◌⊎◌, inl, inr, ⊎_elim}
 use Prim.Native.Nat.{ℕ, zero, suc, ◌+◌, ◌*◌, ◌-◌, ◌/◌, ◌^◌, ◌≤◌, ◌<◌}
 use native.Mathlib.Nat.{le_refl, le-suc, lt_of_le_of_lt, suc_inj, suc-ne-zero, div-le_self, mul-le-mul}
 use native.Mathlib.Omega.{arith}
 use borrow.Author.Tests.{ltb-true, eqb-true, eq-eqb}
-use lib.Dec.{eqb, ltb, lit<}
+use lib.Dec.{T, eqb, ltb, lit<}
 use lib.IntN.{ℤ, pos, negsuc, neg_ℤ, nat_abs, sub_ℕ, ◌+ℤ◌, ◌*ℤ◌}
-use lib.Signed.{mag, quot_z}
+use lib.Signed.{mag, non_neg, lt_z, quot_z}
 use mir.Syntax.{Width, w8, w16, w32, w64, w128}
 use mir.Val.{SFits, bits, hbits, to_z, of_z}
 use mir.Facts.{to_z-of_z}
@@ -33,6 +33,15 @@ natAbs_neg (negsuc n) = refl
 -- what the machine reads back: of a call's result `.ok` is the bound, of an element that was read `.given`
 pub back : (w : Width) (z : ℤ) → mag z < 2 ^ hbits w → to_z w (of_z w z) ≡ z
 back w z h = to_z-of_z {w = w} {z = z} (record { sfits = h })
+
+-- by the test `z < 0`: where it holds -z is at least 0, else z itself
+pub neg_nonNeg : (z : ℤ) → lt_z z (pos 0) ≡ true → T (non_neg (neg_ℤ z))
+neg_nonNeg (pos n) t = absurd (omega (arith, ltb-true n 0 t))
+neg_nonNeg (negsuc n) t = tt
+
+pub nonNeg_of : (z : ℤ) → lt_z z (pos 0) ≡ false → T (non_neg z)
+nonNeg_of (pos n) t = tt
+nonNeg_of (negsuc n) t = subst T t tt
 
 natAbs_sub : (a b : ℕ) → nat_abs (sub_ℕ a b) ≤ a + b
 natAbs_sub a b = go (ltb a b) refl

@@ -3,7 +3,8 @@ use mathlib.Core.Path.{◌≡◌, refl, sym, ap, ◌∙◌, subst}
 use mathlib.Core.Bool.{Bool, true, false, not, cond, ◌&&◌, ◌||◌}
 use mathlib.Core.Logic.{◌⊎◌, inl, inr}
 use Prim.Native.Nat.{ℕ, zero, suc, zero-le}
-use borrow.Author.Tests.{ltb-true, ltb-false, le-leb, lt-leb, le-ltb}
+use native.Mathlib.Nat.{zero-lt-suc}
+use borrow.Author.Tests.{ltb-true, ltb-false, le-leb, lt-leb, lt-ltb, le-ltb}
 use lib.Dec.{T, leb, ltb}
 use lib.IntN.{ℤ, pos, negsuc, ◌+ℤ◌, ◌-ℤ◌, +ℤ_idl, -ℤ-+ℤ_cancel}
 use lib.Signed.{le_z, lt_z}
@@ -94,6 +95,11 @@ le_z_not_lt_z (negsuc m) (pos n) = refl
 le_z_not_lt_z (negsuc m) (negsuc n) = le_not_lt n m
 
 -- the sign by the test of order
+pub above_lt : (z : ℤ) → isAbove z ≡ lt_z (pos 0) z
+above_lt (pos zero) = refl
+above_lt (pos (suc n)) = sym (lt-ltb 0 (suc n) (zero-lt-suc n))
+above_lt (negsuc n) = refl
+
 pub below_lt : (z : ℤ) → isBelow z ≡ lt_z z (pos 0)
 below_lt (pos n) = sym (le-ltb n 0 zero-le)
 below_lt (negsuc n) = refl
