@@ -3,6 +3,7 @@ pub mod Meaning
 pub mod Negating
 pub mod Pairing
 pub mod Ordering
+pub mod Apart
 pub mod Lowering
 pub mod Dividing
 pub mod Again

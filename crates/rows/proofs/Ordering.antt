@@ -84,7 +84,7 @@ number_itself x = go (lt_z x x) refl
     go true e = let h : x <ℤ x = lt_z_yes (T_of e) in absurd (omega zed)
     go false e = refl
 
-entries_itself : (l : List ℤ) → entry_order l l ≡ Equal
+pub entries_itself : (l : List ℤ) → entry_order l l ≡ Equal
 unfolding entry_order
 entries_itself [] = refl
 entries_itself (x ∷ l) = ap₂ {C = Ordering} then_by (number_itself x) (entries_itself l)
