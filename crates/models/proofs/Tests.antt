@@ -1,10 +1,10 @@
--- What arrays are made of and compared with, and the bits of a byte. Assumes nothing.
+-- What arrays are made of and compared with, what is declared case by case, and the bits of a byte. Assumes nothing.
 use mathlib.Core.Path.{◌≡◌, refl, sym, ap, subst, ◌∙◌}
-use mathlib.Core.Bool.{Bool, true, ◌&&◌, ◌||◌}
+use mathlib.Core.Bool.{Bool, true, false, ◌&&◌, ◌||◌}
 use mathlib.Core.List.{List, [], ◌∷◌}
 use Prim.Native.Nat.{ℕ, zero, suc, ◌+◌, ◌^◌, ◌≤◌, ◌<◌, zero-le}
 use native.Mathlib.Nat.{pow-le-pow_right, lt_of_lt_of_le}
-use borrow.Author.Tests.{lt-ltb}
+use borrow.Author.Tests.{lt-ltb, le-leb, lt-leb, ne_eqb}
 use lib.Dec.{ltb, lit<}
 use native.Mathlib.Decide.{ℕ_discrete}
 use native.Mathlib.Omega.{arith}
@@ -20,7 +20,7 @@ use Rattle.std.specs.List.{enumerate_from}
 use Rattle.integers.specs.Lists.{every}
 use Rattle.integers.specs.Signs.{is_zero}
 use Rattle.models.specs.declared.Header.{Header}
-use Rattle.models.specs.Acceptance.{entry_declared, entries_declared}
+use Rattle.models.specs.Acceptance.{between, owner_declared, entry_declared, entries_declared}
 
 -- what `from_fn` makes by a closure that answers h and stays as it is
 module _ {F B : Type 0} (g : Mut F (ℕ × Unit {0}) B) (f : F) (h : ℕ → B) (answers : (i : ℕ) (y : B) (q : F) → Called g f (i, tt) y q → (q ≡ f) × (y ≡ h i)) where
@@ -46,6 +46,28 @@ pub every_entry : (h : Header) (kind i : ℕ) (l : List ℤ) → every (λ x. is
 unfolding entries_declared
 every_entry h kind i [] = refl
 every_entry h kind i (z ∷ l) = rw add-one (ap (λ (b : Bool). (is_zero z || entry_declared h kind i) && b) (every_entry h kind (suc i) l))
+
+-- there are three kinds of owners
+pub no_owner : (h : Header) (kind owner : ℕ) → 2 < kind → false ≡ owner_declared h kind owner
+unfolding owner_declared
+no_owner h zero owner k = absurd (omega arith)
+no_owner h (suc zero) owner k = absurd (omega arith)
+no_owner h (suc (suc zero)) owner k = absurd (omega arith)
+no_owner h (suc (suc (suc kind))) owner k = refl
+
+-- an entry is the constant or a parameter, else a clock, which the initial constraint has not
+module _ (h : Header) (kind i : ℕ) where
+  pub named : i ≤ h.parameters → true ≡ entry_declared h kind i
+  unfolding entry_declared
+  named e = rw (le-leb i h.parameters e)
+
+  pub not-initial : h.parameters < i → kind ≡ 0 → false ≡ entry_declared h kind i
+  unfolding entry_declared
+  not-initial e k = rw (lt-leb i h.parameters e, k)
+
+  pub a_clock : h.parameters < i → (kind ≡ 0 → ⊥) → between 9 i (8 + h.clocks) ≡ entry_declared h kind i
+  unfolding entry_declared
+  a_clock e k = rw (lt-leb i h.parameters e, ne_eqb kind 0 k)
 
 -- all entries together against zeros
 zero_eq : (z : ℤ) → int_eq z (pos 0) ≡ is_zero z
