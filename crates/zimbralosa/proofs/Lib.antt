@@ -1,4 +1,5 @@
 pub mod Clearing
+pub mod Counts
 pub mod Givens
 pub mod Only
 pub mod Over
