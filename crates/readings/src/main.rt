@@ -40,21 +40,31 @@ fn run_next<R: Read, W: Write>(
     Ok(true)
 }
 
+// The tables take nine kilobytes: they are lent on, and a refusal copies none of them.
 fn run_case<W: Write>(writer: &mut W, number: usize, input: &[u8]) -> io::Result<()> {
-    let accepted = accepted(input);
-    vectors::print_case(writer, number, sets::outcome_number(accepted.map(|_| ())))?;
-    writer.write_all(b"\n")?;
-    match accepted {
-        Ok(model) => print_tables(writer, &model),
-        Err(_) => Ok(()),
+    match frames::read(input) {
+        Ok(model) => run_model(writer, number, &model),
+        Err(refusal) => print_outcome(writer, number, Err(refusal)),
     }
 }
 
-// What reading answers, and what checking does where the frames are in order.
-fn accepted(input: &[u8]) -> Result<Model, Refusal> {
-    let model = frames::read(input)?;
-    model.accepted()?;
-    Ok(model)
+// What checking says of a model whose frames are in order, and its tables if it is accepted.
+fn run_model<W: Write>(writer: &mut W, number: usize, model: &Model) -> io::Result<()> {
+    let outcome = model.accepted();
+    print_outcome(writer, number, outcome)?;
+    if outcome.is_ok() {
+        print_tables(writer, model)?;
+    }
+    Ok(())
+}
+
+fn print_outcome<W: Write>(
+    writer: &mut W,
+    number: usize,
+    outcome: Result<(), Refusal>,
+) -> io::Result<()> {
+    vectors::print_case(writer, number, sets::outcome_number(outcome))?;
+    writer.write_all(b"\n")
 }
 
 // The numbers of the header and of the rows, and one number that all numbers of the tables enter in turn.
