@@ -284,6 +284,9 @@ pub read-long : (input : List ℕ) → input_limit < length input → read input
 unfolding read
 read-long input h = rw (lt-leb (length input) input_limit h)
 
+-- for `read`, whose answers name no test of the limit: an edit of it is then refused for what it says
+pub ruleset too_long = read-long
+
 -- ---- a turn of the reader: the line at a place, and what is taken from the frame that it is
 module _ (input : List ℕ) (p : Progress) (ts : List Transition) (rs : List ModelRow) (rest : List ℕ) (r : Reached input p ts rs rest) (h : 0 < length rest) (short : length input ≤ input_limit) where
   all : read input ≡ remaining nothing input

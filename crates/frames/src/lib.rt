@@ -39,6 +39,7 @@ pub enum Frame {
 }
 
 // A model from its frames, or the first refusal of 1 to 6.
+#[tactic(auto, using(crate::proofs::Reaching::too_long))]
 pub fn read(input: &[u8]) -> Result<Model, Refusal>
     ensures { result ≡ read input.now }
 {

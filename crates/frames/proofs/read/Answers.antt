@@ -4,7 +4,7 @@ use Rattle.std.proofs.Math.ListN.{length-drop}
 use borrow.Author.Tests.{eqb-true, eqb-false}
 use Rattle.std.proofs.lemmas.Result.{err_from_is_err_and}
 use Rattle.models.specs.Automaton.{padded}
-use Rattle.frames.proofs.Reaching.{begins, no_transition, no_row, ends-here, read_short, read-long, broken, next-within, refused-here, transition-fits, row-fits, reached-next}
+use Rattle.frames.proofs.Reaching.{begins, no_transition, no_row, ends-here, read_short, broken, next-within, refused-here, transition-fits, row-fits, reached-next}
 use Rattle.frames.proofs.read.Goals as goal
 use Rattle.frames.proofs.read.Goals.{in-Transition, in-Row, in_default}
 
@@ -16,13 +16,10 @@ some l e = let n = eqb-false (length l) 0 (sym e) in omega arith
 whole : (l : List ℕ) (n : ℕ) → n ≤ length l → take (length l - n) (drop n l) ≡ drop n l
 whole l n h = take_all (length l - n) (drop n l) (omega (arith, length-drop n l))
 
-pub returns-then-input-gt65536 : goal.returns-then-input-gt65536
-returns-then-input-gt65536 c = sym (read-long c.args.input.now c.if-input-gt65536.true)
-
 pub loop-rest-init : goal.loop-rest-init
 unfolding padded
 loop-rest-init c =
-    (refl, c.if-input-gt65536.false, begins c.args.input.now c.default-p.result c.default-transitions.result c.default-rows.result c.default-p.ensures c.default-transitions.ensures c.default-rows.ensures)
+    (refl, omega arith, begins c.args.input.now c.default-p.result c.default-transitions.result c.default-rows.result c.default-p.ensures c.default-transitions.ensures c.default-rows.ensures)
 
 pub returns-in_err-count : goal.returns-in_err-count
 returns-in_err-count c =
