@@ -13,9 +13,9 @@ use Rattle.sets.specs.Stores.{rows_at}
 use Rattle.sets.specs.Outcomes.{Outcome, outcome_number}
 use Rattle.frames.specs.Hex.{digits_of, line_of, big_endian}
 use Rattle.frames.specs.declared.answers.Out.{Out}
-use Rattle.frames.specs.Writing.{Room, Put, row_bytes, row_lines, answer_bytes, answer_lines, WrittenIs}
+use Rattle.frames.specs.Writing.{Room, Put, terms_of, row_bytes, row_lines, answer_bytes, answer_lines, WrittenIs}
 use Rattle.std.specs.Int.{bytes_high_first}
-use Rattle.frames.proofs.Overwriting.{two_bytes, four_bytes}
+use Rattle.frames.proofs.Overwriting.{two_bytes, four_bytes, PutOn, put-begins, put-fits, put-next, last-fits, row-parts}
 
 module _ (s : List ℤ) (n i : ℕ) where
   -- the rows from number i on
@@ -32,6 +32,38 @@ module _ (s : List ℤ) (n i : ℕ) where
   pub lines-done : n ≤ i → row_lines from_row ≡ []
   unfolding rows_at row_lines
   lines-done h = let a : n - i ≡ 0 = omega arith in rw a
+
+-- ---- the line of a row, in its three parts: whatever stands for the flag and the number of terms, it is as long
+module _ (r : Row) (b n : ℕ) where
+  abbrev head : List ℕ
+  head = 3 ∷ 0 ∷ 0 ∷ b ∷ n ∷ []
+
+  abbrev tail : List ℕ
+  tail = digits_of (terms_of 0 r.entries) ++ (10 ∷ [])
+
+  as-long : length (line_of (row_bytes r)) ≡ length (digits_of head ++ tail)
+  unfolding digits_of
+  as-long = ap length (row-parts r _ _ refl refl)
+
+  module _ (o : Out) (room : Room (line_of (row_bytes r)) o) where
+    room-same : Room (digits_of head ++ tail) o
+    room-same = omega (arith, as-long)
+
+    begun : PutOn (digits_of head ++ tail) (digits_of head ++ tail) o o
+    begun = put-begins _ _ refl o
+
+    pub head-fits : Room (digits_of head) o
+    head-fits = put-fits _ (digits_of head) tail o o begun room-same
+
+    module _ (o' : Out) (p : Put (digits_of head) o o') where
+      behind-head : PutOn (digits_of head ++ tail) tail o o'
+      behind-head = put-next _ (digits_of head) tail o o begun room-same o' p
+
+      pub terms-fit : Room (digits_of (terms_of 0 r.entries)) o'
+      terms-fit = put-fits _ (digits_of (terms_of 0 r.entries)) (10 ∷ []) o o' behind-head room-same
+
+      pub end-fits : (o'' : Out) → Put (digits_of (terms_of 0 r.entries)) o' o'' → Room (10 ∷ []) o''
+      end-fits o'' q = last-fits _ (10 ∷ []) o o'' (put-next _ (digits_of (terms_of 0 r.entries)) (10 ∷ []) o o' behind-head room-same o'' q) room-same
 
 -- ---- the frame 05
 pub answer_digits : (o : Outcome) (a b c n : ℕ) → line_of (answer_bytes o a b c n) ≡
