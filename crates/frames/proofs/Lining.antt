@@ -1,6 +1,7 @@
 -- The lines of the rows of a store, one after the other. Assumes nothing.
 use mathlib.Core.Path.{◌≡◌, refl, sym, ap, ◌∙◌}
-use mathlib.Core.List.{List, [], ◌∷◌, ◌++◌}
+use mathlib.Core.Bool.{Bool, true, false, cond}
+use mathlib.Core.List.{List, [], ◌∷◌, ◌++◌, append_assoc}
 use Prim.Native.Nat.{ℕ, zero, suc, ◌+◌, ◌-◌, ◌*◌, ◌≤◌, ◌<◌}
 use native.Mathlib.Omega.{arith}
 use borrow.Author.Tests.{le-leb, lt-leb}
@@ -13,9 +14,9 @@ use Rattle.sets.specs.Stores.{rows_at}
 use Rattle.sets.specs.Outcomes.{Outcome, outcome_number}
 use Rattle.frames.specs.Hex.{digits_of, line_of, big_endian}
 use Rattle.frames.specs.declared.answers.Out.{Out}
-use Rattle.frames.specs.Writing.{Room, Put, terms_of, row_bytes, row_lines, answer_bytes, answer_lines, WrittenIs}
-use Rattle.std.specs.Int.{bytes_high_first}
-use Rattle.frames.proofs.Overwriting.{two_bytes, four_bytes, PutOn, put-begins, put-fits, put-next, last-fits, row-parts}
+use Rattle.frames.specs.Writing.{Room, Put, terms_of, term_number, row_head, row_bytes, row_lines, count_bytes, answer_bytes, answer_lines, WrittenIs}
+use Rattle.std.specs.Int.{bytes_high_first, from_bool}
+use Rattle.frames.proofs.Overwriting.{row_digits, big_endian-two, big_endian-four, PutOn, put-begins, put-fits, put-next, last-fits}
 
 module _ (s : List ℤ) (n i : ℕ) where
   -- the rows from number i on
@@ -33,7 +34,20 @@ module _ (s : List ℤ) (n i : ℕ) where
   unfolding rows_at row_lines
   lines-done h = let a : n - i ≡ 0 = omega arith in rw a
 
--- ---- the line of a row, in its three parts: whatever stands for the flag and the number of terms, it is as long
+-- ---- a row in its three parts: the head, the terms, LF
+flag-is : (strict : Bool) → from_bool strict ≡ cond strict 1 0
+flag-is true = refl
+flag-is false = refl
+
+head-is : (strict : Bool) (n b m : ℕ) → b ≡ cond strict 1 0 → m ≡ n → digits_of (row_head strict n) ≡ digits_of (3 ∷ 0 ∷ 0 ∷ b ∷ m ∷ [])
+head-is strict n b m e f = rw (e, f)
+
+pub row-parts : (r : Row) (b n : ℕ) → b ≡ from_bool r.strict → n ≡ term_number r.entries → line_of (row_bytes r) ≡ digits_of (3 ∷ 0 ∷ 0 ∷ b ∷ n ∷ []) ++ (digits_of (terms_of 0 r.entries) ++ (10 ∷ []))
+row-parts r b n flag number =
+    row_digits r ∙ append_assoc (digits_of (row_head r.strict (term_number r.entries))) (digits_of (terms_of 0 r.entries)) (10 ∷ [])
+    ∙ ap (λ (h : List ℕ). h ++ (digits_of (terms_of 0 r.entries) ++ (10 ∷ []))) (head-is r.strict (term_number r.entries) b n (flag ∙ flag-is r.strict) number)
+
+-- whatever stands for the flag and the number of terms, the line is as long
 module _ (r : Row) (b n : ℕ) where
   abbrev head : List ℕ
   head = 3 ∷ 0 ∷ 0 ∷ b ∷ n ∷ []
@@ -67,9 +81,15 @@ module _ (r : Row) (b n : ℕ) where
 
 -- ---- the frame 05
 pub answer_digits : (o : Outcome) (a b c n : ℕ) → line_of (answer_bytes o a b c n) ≡
-    digits_of (5 ∷ outcome_number o ∷ []) ++ (digits_of (big_endian 2 a) ++ (digits_of (big_endian 2 b) ++ (digits_of (big_endian 4 c) ++ (digits_of (n ∷ []) ++ (10 ∷ [])))))
+    (((digits_of (5 ∷ []) ++ digits_of (outcome_number o ∷ [])) ++ digits_of (count_bytes a b c)) ++ digits_of (n ∷ [])) ++ (10 ∷ [])
 unfolding line_of answer_bytes digits_of big_endian
 answer_digits o a b c n = refl
+
+-- the same in the parts that the code writes
+pub answer-parts : (o : Outcome) (a b c n : ℕ) → line_of (answer_bytes o a b c n) ≡
+    digits_of (5 ∷ outcome_number o ∷ []) ++ (digits_of (big_endian 2 a) ++ (digits_of (big_endian 2 b) ++ (digits_of (big_endian 4 c) ++ (digits_of (n ∷ []) ++ (10 ∷ [])))))
+unfolding line_of answer_bytes digits_of big_endian
+answer-parts o a b c n = refl
 
 pub answer-length : (o : Outcome) (a b c n : ℕ) → length (line_of (answer_bytes o a b c n)) ≡ 23
 unfolding line_of answer_bytes digits_of big_endian
@@ -77,10 +97,10 @@ answer-length o a b c n = refl
 
 -- the numbers' bytes as std has them
 pub low-two : (l : List ℕ) (m : ℕ) → l ≡ bytes_high_first 8 m → take 2 (drop 6 l) ≡ big_endian 2 m
-low-two l m e = rw e (sym (two_bytes m))
+low-two l m e = rw e (sym (big_endian-two m))
 
 pub low-four : (l : List ℕ) (m : ℕ) → l ≡ bytes_high_first 8 m → take 4 (drop 4 l) ≡ big_endian 4 m
-low-four l m e = rw e (sym (four_bytes m))
+low-four l m e = rw e (sym (big_endian-four m))
 
 pub rows-count : (s : List ℤ) (at n : ℕ) → length (rows_at s at n) ≡ n
 unfolding rows_at

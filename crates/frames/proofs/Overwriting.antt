@@ -9,7 +9,7 @@ use native.Mathlib.Numerals.{add-one}
 use lib.IntN.{ℤ, pos, negsuc}
 use lib.Signed.{mag}
 use mir.Syntax.{w32}
-use Rattle.std.specs.Int.{bytes_high_first, from_bool}
+use Rattle.std.specs.Int.{bytes_high_first}
 use mir.Val.{to_z, of_z}
 use mir.Facts.{to_z-of_z}
 use Rattle.integers.specs.Signs.{is_zero}
@@ -41,7 +41,7 @@ module _ (cs : List ℕ) (at : ℕ) (to : List ℕ) (room : at + length cs ≤ l
 pub over_none : (at : ℕ) (to : List ℕ) → over [] at to ≡ to
 over_none at to = let e : at + 0 ≡ at = omega arith in rw (e, append-nil) (take-append-drop at to)
 
-wrote_none : (at : ℕ) (to : List ℕ) → Wrote [] at to to at
+pub wrote_none : (at : ℕ) (to : List ℕ) → Wrote [] at to to at
 wrote_none at to = record { place = plus_none at; long = refl; store = sym (over_none at to) }
   where
     plus_none : (a : ℕ) → a ≡ a + 0
@@ -74,18 +74,27 @@ digits_length (b ∷ bs) = ap (λ (n : ℕ). suc (suc n)) (digits_length bs) ∙
     twice : (n : ℕ) → suc (suc (n * 2)) ≡ suc n * 2
     twice n = omega arith
 
+-- two bytes, and four as twice two
+pub two_bytes : (n : ℕ) → digits_of (big_endian 2 n) ≡ digits_of (n / 256 % 256 ∷ []) ++ digits_of (n % 256 ∷ [])
+unfolding big_endian digits_of
+two_bytes n = refl
+
+pub four_bytes : (n : ℕ) → digits_of (big_endian 4 n) ≡ digits_of (big_endian 2 (n / 256 / 256)) ++ digits_of (big_endian 2 n)
+unfolding big_endian digits_of
+four_bytes n = refl
+
 -- ---- numbers as std has their bytes
 pub big_four : (n : ℕ) → length (big_endian 4 n) ≡ 4
 unfolding big_endian
 big_four n = refl
 
-pub two_bytes : (n : ℕ) → big_endian 2 n ≡ n / 256 % 256 ∷ n % 256 ∷ []
+pub big_endian-two : (n : ℕ) → big_endian 2 n ≡ n / 256 % 256 ∷ n % 256 ∷ []
 unfolding big_endian
-two_bytes n = refl
+big_endian-two n = refl
 
-pub four_bytes : (n : ℕ) → big_endian 4 n ≡ n / 16777216 % 256 ∷ n / 65536 % 256 ∷ n / 256 % 256 ∷ n % 256 ∷ []
+pub big_endian-four : (n : ℕ) → big_endian 4 n ≡ n / 16777216 % 256 ∷ n / 65536 % 256 ∷ n / 256 % 256 ∷ n % 256 ∷ []
 unfolding big_endian
-four_bytes n =
+big_endian-four n =
     let a : n / 256 / 256 / 256 ≡ n / 16777216 = omega arith in
     let b : n / 256 / 256 ≡ n / 65536 = omega arith in
     rw (a, b)
@@ -105,7 +114,7 @@ module _ (i : ℕ) (z : ℤ) (fits : mag z < 2 ^ 31) where
   term-is e = rw (zero_bits w32 z e)
 
   pub coefficient-is : (l : List ℕ) → l ≡ bytes_high_first 4 (of_z w32 (to_z w32 (of_z w32 z))) → big_endian 4 (pattern z) ≡ l
-  coefficient-is l e = rw (e, to_z-of_z {w = w32} {z = z} (record { sfits = fits }), pattern-is z) (four_bytes (pattern z))
+  coefficient-is l e = rw (e, to_z-of_z {w = w32} {z = z} (record { sfits = fits }), pattern-is z) (big_endian-four (pattern z))
 
 -- ---- terms one after the other
 module _ (l : List ℤ) (i : ℕ) (h : i < length l) where
@@ -129,10 +138,10 @@ pub record Going (cs : List ℕ) (at : ℕ) (to₀ ds : List ℕ) (next : ℕ) (
   pub place : next + length ds ≡ at + length cs
   pub store : over ds next to ≡ over cs at to₀
 
-going_first : (cs : List ℕ) (at : ℕ) (to : List ℕ) → Going cs at to cs at to
+pub going_first : (cs : List ℕ) (at : ℕ) (to : List ℕ) → Going cs at to cs at to
 going_first cs at to = record { long = refl; place = refl; store = refl }
 
-going_on : (cs : List ℕ) (at : ℕ) (to₀ xs ds : List ℕ) (next next' : ℕ) (to to' : List ℕ) → at + length cs ≤ length to₀ → Going cs at to₀ (xs ++ ds) next to → Wrote xs next to to' next' → Going cs at to₀ ds next' to'
+pub going_on : (cs : List ℕ) (at : ℕ) (to₀ xs ds : List ℕ) (next next' : ℕ) (to to' : List ℕ) → at + length cs ≤ length to₀ → Going cs at to₀ (xs ++ ds) next to → Wrote xs next to to' next' → Going cs at to₀ ds next' to'
 going_on cs at to₀ xs ds next next' to to' room g w =
     let n = length-append xs ds in
     record {
@@ -141,7 +150,7 @@ going_on cs at to₀ xs ds next next' to to' room g w =
       store = rw (w.place, w.store) (over_two xs next to (omega (arith, g.place, g.long)) ds) ∙ g.store;
     }
 
-going_end : (cs : List ℕ) (at : ℕ) (to₀ : List ℕ) (next : ℕ) (to : List ℕ) → Going cs at to₀ [] next to → Wrote cs at to₀ to next
+pub going_end : (cs : List ℕ) (at : ℕ) (to₀ : List ℕ) (next : ℕ) (to : List ℕ) → Going cs at to₀ [] next to → Wrote cs at to₀ to next
 going_end cs at to₀ next to g = record { place = omega (arith, g.place); long = g.long; store = sym (over_none next to) ∙ g.store }
 
 -- the same of the store that the code writes to
@@ -214,13 +223,6 @@ terms-few (z ∷ l) = go (is_zero z) (terms-few l)
     go false h = omega arith
 
 -- ---- the line of a row
-flag-is : (strict : Bool) → from_bool strict ≡ cond strict 1 0
-flag-is true = refl
-flag-is false = refl
-
-head-is : (strict : Bool) (n b m : ℕ) → b ≡ cond strict 1 0 → m ≡ n → digits_of (row_head strict n) ≡ digits_of (3 ∷ 0 ∷ 0 ∷ b ∷ m ∷ [])
-head-is strict n b m e f = rw (e, f)
-
 pub row_digits : (r : Row) → line_of (row_bytes r) ≡ (digits_of (row_head r.strict (term_number r.entries)) ++ digits_of (terms_of 0 r.entries)) ++ (10 ∷ [])
 unfolding line_of row_bytes
 row_digits r = ap (λ (t : List ℕ). t ++ (10 ∷ [])) (digits_then (row_head r.strict (term_number r.entries)) (terms_of 0 r.entries))
@@ -239,9 +241,3 @@ line-length r =
     let t = terms_of 0 r.entries in
     let h = row_head r.strict (term_number r.entries) in
     ap length (row_digits r) ∙ (rw (length-append (digits_of h ++ digits_of t), length-append (digits_of h), digits_length h, digits_length t, terms-length r.entries 0) (omega arith))
-
--- ---- a row in its three parts: the head, the terms, LF
-pub row-parts : (r : Row) (b n : ℕ) → b ≡ from_bool r.strict → n ≡ term_number r.entries → line_of (row_bytes r) ≡ digits_of (3 ∷ 0 ∷ 0 ∷ b ∷ n ∷ []) ++ (digits_of (terms_of 0 r.entries) ++ (10 ∷ []))
-row-parts r b n flag number =
-    row_digits r ∙ append_assoc (digits_of (row_head r.strict (term_number r.entries))) (digits_of (terms_of 0 r.entries)) (10 ∷ [])
-    ∙ ap (λ (h : List ℕ). h ++ (digits_of (terms_of 0 r.entries) ++ (10 ∷ []))) (head-is r.strict (term_number r.entries) b n (flag ∙ flag-is r.strict) number)

@@ -11,6 +11,7 @@ use lib.ListN.{length, get_or, take, drop}
 use lib.Seq.{length-take-le, take_all, get_or-take, get_or-drop}
 use Rattle.std.specs.Prelude.{Some, None, is_some, min}
 use Rattle.std.specs.Option.{unwrap_or}
+use Rattle.integers.proofs.Tests.{and_left, and_right}
 use Rattle.rows.specs.Rows.{set_rows}
 use Rattle.sets.specs.Outcomes.{Outcome, Ok, Err}
 use Rattle.sets.specs.declared.Refusal.{Refusal}
@@ -95,8 +96,12 @@ module _ (to bs : List ℕ) (count : ℕ) (size : length bs ≡ count) (long : l
           let m : min count frame_limit ≡ frame_limit = omega arith in
           rw m (take_all frame_limit to (omega arith) ∙ sym (take_all count to (omega arith)) ∙ same)
 
-  kind_same : get_or held 0 0 ≡ get_or bs 0 0
-  kind_same = ap (λ (l : List ℕ). get_or l 0 0) front_same ∙ get_or-take frame_limit bs 0 0 (lit< tt)
+  held-kind : get_or held 0 0 ≡ get_or bs 0 0
+  held-kind = ap (λ (l : List ℕ). get_or l 0 0) front_same ∙ get_or-take frame_limit bs 0 0 (lit< tt)
+
+  -- a line with bytes begins as the buffer does
+  pub kind_same : 0 < count → get_or to 0 0 ≡ get_or bs 0 0
+  kind_same some = sym (get_or-take (min count frame_limit) to 0 0 (omega arith)) ∙ held-kind
 
   terms-same : term_count (drop 1 held) ≡ term_count (drop 1 bs)
   terms-same =
@@ -106,31 +111,44 @@ module _ (to bs : List ℕ) (count : ℕ) (size : length bs ≡ count) (long : l
   whole-shown h = ap (drop 1) (front_same ∙ take_all frame_limit bs (omega arith))
 
   pub frame-shown : (s : Seen) → 0 < count → frame s bs ≡ passed (placed (progress_of s) (get_or held 0 0) (count - 1) (term_count (drop 1 held))) (content s (get_or held 0 0) (drop 1 bs))
-  frame-shown s some = frame_is s bs (omega arith) ∙ (rw (size, ← kind_same, ← terms-same))
+  frame-shown s some = frame_is s bs (omega arith) ∙ (rw (size, ← held-kind, ← terms-same))
 
 pub frame-none : (s : Seen) (bs : List ℕ) → length bs ≡ 0 → frame s bs ≡ Err NoFrame
 unfolding frame
 frame-none s [] h = refl
 frame-none s (k ∷ b) h = absurd (omega arith)
 
--- ---- a frame in its place comes first or behind the header, and has its length
-in_place : (a b c d : Bool) → ◌≡◌ {A = Outcome} (cond a (cond b (cond c (cond d (Ok tt) (Err Misplaced)) (Err NoFrame)) (Err Misplaced)) (Err NoFrame)) (Ok tt) → (b ≡ true) × (c ≡ true)
-in_place true true true d e = (refl, refl)
-in_place true true false d e = refused-not e
-in_place true false c d e = refused-not e
-in_place false b c d e = refused-not e
+-- ---- a frame in its place has a known kind, comes first or behind the header, and has its length
+known : (a b c d : Bool) → ◌≡◌ {A = Outcome} (cond a (cond b (cond c (cond d (Ok tt) (Err Misplaced)) (Err NoFrame)) (Err Misplaced)) (Err NoFrame)) (Ok tt) → (a ≡ true) × (b ≡ true) × (c ≡ true)
+known true true true d e = (refl, refl, refl)
+known true true false d e = refused-not e
+known true false c d e = refused-not e
+known false b c d e = refused-not e
+
+pub record InPlace (p : Progress) (kind count terms : ℕ) : Type 0 where
+  pub low : 1 ≤ kind
+  pub high : kind ≤ 4
+  pub size : count ≡ due_length (declared p) kind terms
+
+module _ (p : Progress) (kind count terms : ℕ) (e : placed p kind count terms ≡ Ok tt) where
+  tests : (is_known kind ≡ true) × ((is_some p.header || eqb kind 1) ≡ true) × (eqb count (due_length (declared p) kind terms) ≡ true)
+  unfolding placed
+  tests = known (is_known kind) (is_some p.header || eqb kind 1) (eqb count (due_length (declared p) kind terms)) (is_due p kind) e
+
+  pub in_place : InPlace p kind count terms
+  in_place = record {
+    low = leb-true 1 kind (and_left (leb 1 kind) (leb kind 4) tests.0);
+    high = leb-true kind 4 (and_right (leb 1 kind) (leb kind 4) tests.0);
+    size = eqb-true count (due_length (declared p) kind terms) tests.2;
+  }
 
 module _ (p : Progress) (kind count terms : ℕ) (e : Ok tt ≡ placed p kind count terms) where
-  both : ((is_some p.header || eqb kind 1) ≡ true) × (eqb count (due_length (declared p) kind terms) ≡ true)
-  unfolding placed
-  both = in_place (is_known kind) (is_some p.header || eqb kind 1) (eqb count (due_length (declared p) kind terms)) (is_due p kind) (sym e)
-
   pub due-size : count ≡ due_length (declared p) kind terms
-  due-size = eqb-true count (due_length (declared p) kind terms) both.1
+  due-size = (in_place p kind count terms (sym e)).size
 
   pub header-met : (s : Seen) → progress_of s ≡ p → kind ≢ 1 → s.header ≡ declared p
   header-met s is other =
-      let h = rw (ne_eqb kind 1 other) at both.0 in
+      let h = rw (ne_eqb kind 1 other) at (tests p kind count terms (sym e)).1 in
       let met : s.has_header ≡ true = sym (headed-is s) ∙ ap (λ (q : Progress). is_some q.header) is ∙ or_left (is_some p.header) h in
       sym (declared-is s met) ∙ ap declared is
 

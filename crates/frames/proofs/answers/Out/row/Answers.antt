@@ -1,5 +1,5 @@
-use Rattle.frames.proofs.Overwriting.{put-begins, put-next, put-last, row-parts}
-use Rattle.frames.proofs.Lining.{head-fits, terms-fit, end-fits}
+use Rattle.frames.proofs.Overwriting.{put-begins, put-next, put-last}
+use Rattle.frames.proofs.Lining.{row-parts, head-fits, terms-fit, end-fits}
 use Rattle.frames.proofs.answers.Out.row.Goals as goal
 
 pub put-requires : goal.put-requires
